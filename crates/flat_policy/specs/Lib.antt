@@ -1,0 +1,15 @@
+pub mod Unpreceded
+pub mod Setup
+pub mod Usage
+pub mod Queue
+pub mod WellFormed
+pub mod Precedence
+pub mod Windows
+pub mod Moves
+pub mod Offer
+pub mod Aim
+pub mod Refresh
+pub mod ClusterSteps
+pub mod Machine
+pub mod Laws
+pub mod Rows

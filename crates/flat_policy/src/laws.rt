@@ -1,0 +1,1 @@
+//! Laws that show that the definitions say what is meant. Each is the contract of a function that does nothing.
