@@ -46,4 +46,12 @@ impl<const R: usize, const C: usize> Table<R, C> {
     {
         self.rows[r][c] = v;
     }
+
+    /// Puts a whole row in place of row `r`, counted from 0. The other rows stay.
+    pub fn set_row(&mut self, r: usize, row: [u64; C])
+        requires { r < R }
+        ensures { self.new ≡ slice_set self.old r row.entry }
+    {
+        self.rows[r] = row;
+    }
 }

@@ -9,16 +9,21 @@ fn a_table_keeps_what_is_put_in(rt: HostRuntime) {
     table.set(7, 0, u64::MAX);
     let copy = table;
     table.set(7, 0, 5);
+    table.set_row(3, [9; 18]);
     assert_eq!(rt;
         (table.get(0, 17), table.get(7, 0), table.get(7, 17)),
         (1, 5, 7)
+    );
+    assert_eq!(rt;
+        (table.get(2, 17), table.get(3, 17), copy.get(3, 17)),
+        (7, 9, 7)
     );
     assert_eq!(rt; copy.get(7, 0), u64::MAX);
 }
 
 #[test]
 fn times_of_version_one(rt: HostRuntime) {
-    let table = version_one();
+    let rows = version_one();
     for (bucket, expected) in [
         (Bucket::Ui, (0, 0, 10000)),
         (Bucket::Fg, (0, 8000, 10000)),

@@ -3,7 +3,6 @@
 ghost use Rattle.std.specs.Prelude.{◌≡◌, ◌∷◌, []};
 ghost use Rattle.bucket_tables.specs.Tables.{by_bucket, quantum_of, warp_of, wcel_of};
 
-use crate::table::Table;
 use sched_base::Bucket;
 
 /// How long after it fills a lane of the bucket is to be served, in microseconds; 0 for `Ui`,
@@ -48,17 +47,17 @@ pub fn quantum(b: Bucket) -> u64
     }
 }
 
-/// The times of version 1 in one table: WCEL in row 0, WARP in row 1 and QUANTUM in row 2, each
-/// by bucket index, in microseconds.
-pub fn version_one() -> Table<3, 6>
+/// The times of version 1 in three rows, WCEL, WARP and QUANTUM, each by bucket index, in
+/// microseconds.
+pub fn version_one() -> [[u64; 6]; 3]
     ensures { result ≡ by_bucket wcel_of ∷ by_bucket warp_of ∷ by_bucket quantum_of ∷ [] }
 {
-    let mut times = Table::<3, 6>::filled(0);
+    let mut times = [[0; 6]; 3];
     crate::each_bucket!(bucket => {
         let column = bucket.index() as usize;
-        times.set(0, column, wcel(bucket));
-        times.set(1, column, warp(bucket));
-        times.set(2, column, quantum(bucket));
+        times[0][column] = wcel(bucket);
+        times[1][column] = warp(bucket);
+        times[2][column] = quantum(bucket);
     });
     times
 }
