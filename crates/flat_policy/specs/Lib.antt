@@ -13,3 +13,7 @@ pub mod ClusterSteps
 pub mod Machine
 pub mod Laws
 pub mod Rows
+pub mod Places
+pub mod Own
+pub mod Interleaving
+pub mod Worker
