@@ -17,3 +17,4 @@ pub mod Places
 pub mod Own
 pub mod Interleaving
 pub mod Worker
+pub mod Texts
