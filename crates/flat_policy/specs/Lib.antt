@@ -1,5 +1,6 @@
 pub mod Unpreceded
 pub mod Setup
+pub mod Ranges
 pub mod Usage
 pub mod Queue
 pub mod WellFormed
@@ -18,3 +19,4 @@ pub mod Own
 pub mod Interleaving
 pub mod Worker
 pub mod Texts
+pub mod Load

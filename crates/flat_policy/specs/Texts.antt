@@ -3,3 +3,5 @@ pub mod Pieces
 pub mod Steps
 pub mod Answers
 pub mod Lines
+pub mod SetupLines
+pub mod Streams

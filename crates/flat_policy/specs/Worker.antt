@@ -44,9 +44,9 @@ pub record Stage : Type 0 where
 
 -- the stages of a list of spans, from an amount of work
 abbrev pub stages_from : ℕ → List ℕ → List Stage
-stages_from done [] = []
-stages_from done (run ∷ []) = record { target = done + run; sleep = None } ∷ []
-stages_from done (run ∷ sleep ∷ rest) = record { target = done + run; sleep = Some sleep } ∷ stages_from (done + run) rest
+stages_from before [] = []
+stages_from before (run ∷ []) = record { target = before + run; sleep = None } ∷ []
+stages_from before (run ∷ sleep ∷ rest) = record { target = before + run; sleep = Some sleep } ∷ stages_from (before + run) rest
 
 -- the stages of a program
 abbrev pub stages : Program → List Stage
