@@ -1,5 +1,6 @@
 pub mod Unpreceded
 pub mod Setup
+pub mod Ranges
 pub mod Usage
 pub mod Queue
 pub mod WellFormed
@@ -13,3 +14,9 @@ pub mod ClusterSteps
 pub mod Machine
 pub mod Laws
 pub mod Rows
+pub mod Places
+pub mod Own
+pub mod Interleaving
+pub mod Worker
+pub mod Texts
+pub mod Load

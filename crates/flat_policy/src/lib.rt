@@ -6,3 +6,4 @@ pub mod lanes;
 pub mod laws;
 pub mod rows;
 pub mod setup;
+pub mod texts;

@@ -1,0 +1,193 @@
+-- Lines, and the runs of one place: of a cluster, and of the yard of a run.
+use Rattle.std.specs.List.{list_any}
+use Rattle.std.specs.Prelude.{Bool, IsTrue, List, None, Option, Some, [], false, filter, length, min, nat_le, nat_lt, not, true, ℕ, ◌&&◌, ◌++◌, ◌+◌, ◌-◌, ◌<◌, ◌==◌, ◌^◌, ◌||◌, ◌∷◌, ◌≡◌, ◌≢◌, ◌≤◌}
+use Rattle.sched_base.specs.Bucket.{index}
+use Rattle.sched_base.specs.Facts.{rested}
+use Rattle.sched_base.specs.declared.Act.{Act}
+use Rattle.sched_base.specs.declared.Answer.{Answer}
+use Rattle.sched_base.specs.declared.Bucket.{Bucket}
+use Rattle.sched_base.specs.declared.Facts.{Facts}
+use Rattle.flat_policy.specs.declared.journal.Line.{Line}
+use Rattle.flat_policy.specs.Aim.{MayEnter}
+use Rattle.flat_policy.specs.ClusterSteps.{Event, enter_event, look_event, named_entry, offer_event, power_event, pull_event, refresh_event, select_event}
+use Rattle.flat_policy.specs.Machine.{fits_step, made_thread}
+use Rattle.flat_policy.specs.Queue.{Flat, Queued, empty_flat}
+use Rattle.flat_policy.specs.Setup.{SetupParts, group_count, home_of}
+use Rattle.flat_policy.specs.Texts.SetupLines.{in_range}
+use Rattle.flat_policy.specs.Unpreceded.{unpreceded}
+use Rattle.sched_base.specs.declared.Act.TheVariants as acts
+use Rattle.sched_base.specs.declared.Answer.TheVariants as answers
+
+-- the moment, actor and act of a line
+abbrev pub moment_of : Line → ℕ
+moment_of l = l.entry.step.moment
+
+abbrev pub actor_of : Line → ℕ
+actor_of l = l.entry.step.actor
+
+abbrev pub act_of : Line → Act
+act_of l = l.entry.step.act
+
+-- a line has an answer and a thread
+pub record Says (l : Line) (told : Answer) (moved : Option Facts) : Type 0 where
+  pub answer : l.entry.answer ≡ told
+  pub thread : l.entry.thread ≡ moved
+
+-- a line has no mark
+abbrev pub NoMark : Line → Type 0
+NoMark l = l.mark ≡ None
+
+-- a line says what an event comes to, and the queue afterwards is the event's
+pub record Comes (l : Line) (e : Event) (next : Flat) : Type 0 where
+  pub answer : l.entry.answer ≡ e.answer
+  pub thread : l.entry.thread ≡ e.thread
+  pub flat : next ≡ e.flat
+
+-- a thread enters: there is room, and it may enter
+abbrev pub Enters : SetupParts → ℕ → Flat → Line → Bool → Flat → Option Facts → Type 0
+Enters setup c s l head next None = ⊥
+Enters setup c s l head next (Some t) =
+    (length s.entries < 4096) × MayEnter setup t c × Comes l (enter_event setup c t head (moment_of l) s) next
+
+-- a named entry is pulled out
+abbrev pub Pulls : Flat → Line → Flat → Option Queued → Type 0
+Pulls s l next None = ⊥
+Pulls s l next (Some e) = Comes l (pull_event e (moment_of l) s) next
+
+-- what each line of a cluster does there; the other lines have no place at a cluster
+abbrev pub ClusterCase : SetupParts → ℕ → Flat → Line → Flat → Act → Type 0
+ClusterCase setup c s l next (acts.Make name group bucket base bound) = ⊥
+ClusterCase setup c s l next (acts.Enter at head) = (at ≡ c) × NoMark l × Enters setup c s l head next l.entry.thread
+ClusterCase setup c s l next acts.Select =
+    (home_of setup (actor_of l) ≡ c) × NoMark l × Comes l (select_event setup c (moment_of l) s) next
+ClusterCase setup c s l next (acts.Offer at) =
+    (at ≡ c) × (home_of setup (actor_of l) ≢ c) × NoMark l
+    × Comes l (offer_event setup c (home_of setup (actor_of l)) (moment_of l) s) next
+ClusterCase setup c s l next (acts.Pull name) =
+    (home_of setup (actor_of l) ≡ c) × NoMark l × Pulls s l next (named_entry s name)
+ClusterCase setup c s l next (acts.Look at) =
+    (at ≡ c) × (b : Bucket) × (l.mark ≡ Some (index b)) × Comes l (look_event setup c b (moment_of l) s) next
+ClusterCase setup c s l next acts.Aim = ⊥
+ClusterCase setup c s l next (acts.Ran us) = ⊥
+ClusterCase setup c s l next acts.Sleep = ⊥
+ClusterCase setup c s l next (acts.Wake name) = ⊥
+ClusterCase setup c s l next acts.End = ⊥
+ClusterCase setup c s l next acts.Blocked = ⊥
+ClusterCase setup c s l next acts.Refresh =
+    (home_of setup (actor_of l) ≡ c) × NoMark l × Comes l (refresh_event setup (moment_of l) s) next
+ClusterCase setup c s l next (acts.Off at) = (at ≡ c) × NoMark l × Comes l (power_event false (moment_of l) s) next
+ClusterCase setup c s l next (acts.On at) = (at ≡ c) × NoMark l × Comes l (power_event true (moment_of l) s) next
+
+-- a line leads the queue of a cluster from one state to the next, at a moment that is not before its last
+pub record CStep (setup : SetupParts) (c : ℕ) (s : Flat) (l : Line) (next : Flat) : Type 0 where
+  pub in_range : moment_of l < 2 ^ 40
+  pub not_before : s.last ≤ moment_of l
+  pub happens : ClusterCase setup c s l next (act_of l)
+
+-- lines lead a queue from one state to another
+abbrev pub CRunFrom : SetupParts → ℕ → Flat → List Line → Flat → Type 0
+CRunFrom setup c s [] end = end ≡ s
+CRunFrom setup c s (l ∷ ls) end = (next : Flat) × CStep setup c s l next × CRunFrom setup c next ls end
+
+-- lines lead the empty queue of a cluster to a state
+abbrev pub CRun : SetupParts → ℕ → List Line → Flat → Type 0
+CRun setup c ls end = CRunFrom setup c (empty_flat (group_count setup)) ls end
+
+-- a blocked thread of a run: since when, and from when on it may be woken
+pub record DueSleeper : Type 0 where
+  pub facts : Facts
+  pub since : ℕ
+  pub due : ℕ
+
+-- the yard of a run: the blocked threads, the names ended and ever made, and its last moment
+pub record RunYard : Type 0 where
+  pub blocked : List DueSleeper
+  pub ended : List ℕ
+  pub made : List ℕ
+  pub last : ℕ
+
+abbrev pub empty_run_yard : RunYard
+empty_run_yard = record { blocked = []; ended = []; made = []; last = 0 }
+
+-- a thread is woken before another by the due moment, and at one by the name
+abbrev pub wakes_before : DueSleeper → DueSleeper → Bool
+wakes_before x y = nat_lt x.due y.due || ((x.due == y.due) && nat_lt x.facts.name y.facts.name)
+
+-- the thread to be woken first
+abbrev pub first_sleeper : RunYard → Option DueSleeper
+first_sleeper y = unpreceded wakes_before y.blocked
+
+-- when a thread that goes to sleep for a span may be woken
+abbrev pub due_after : ℕ → ℕ → ℕ
+due_after now span = min (now + span) (2 ^ 40 - 1)
+
+-- a thread goes to sleep
+abbrev pub SleepsFor : RunYard → Line → RunYard → Option Facts → Option ℕ → Type 0
+SleepsFor y l next None mark = ⊥
+SleepsFor y l next (Some t) None = ⊥
+SleepsFor y l next (Some t) (Some span) =
+    Says l answers.Yes (Some t)
+    × (next ≡ record y { blocked = y.blocked ++ record { facts = t; since = moment_of l; due = due_after (moment_of l) span } ∷ []; last = moment_of l })
+
+-- the thread that is first is woken, not before it is due
+abbrev pub Wakes : RunYard → Line → RunYard → ℕ → Option DueSleeper → Type 0
+Wakes y l next name None = ⊥
+Wakes y l next name (Some w) =
+    (name ≡ w.facts.name) × (w.due ≤ moment_of l)
+    × Says l answers.Yes (Some (rested (moment_of l - w.since) w.facts))
+    × (next ≡ record y { blocked = filter (λ (v : DueSleeper). not (v.facts.name == name)) y.blocked; last = moment_of l })
+
+-- a thread ends
+abbrev pub Ends : RunYard → Line → RunYard → Option Facts → Type 0
+Ends y l next None = ⊥
+Ends y l next (Some t) =
+    Says l answers.Yes (Some t) × (next ≡ record y { ended = y.ended ++ t.name ∷ []; last = moment_of l })
+
+-- a thread is made: the setup fits the step, the name is unused, and there is room
+abbrev pub Makes : SetupParts → RunYard → Line → RunYard → ℕ → ℕ → Bucket → ℕ → Option ℕ → Type 0
+Makes setup y l next name group bucket base bound =
+    IsTrue (fits_step setup l.entry.step)
+    × (list_any (λ n. n == name) y.made ≡ false)
+    × (length y.made - length y.ended < setup.threads)
+    × Says l answers.Yes (Some (made_thread setup name group bucket base bound (moment_of l)))
+    × (next ≡ record y { made = y.made ++ name ∷ []; last = moment_of l })
+
+-- the blocked threads are counted, where none is due
+abbrev pub Counts : RunYard → Line → RunYard → Type 0
+Counts y l next =
+    (list_any (λ (w : DueSleeper). nat_le w.due (moment_of l)) y.blocked ≡ false)
+    × Says l (answers.Left (length y.blocked)) None
+    × (next ≡ record y { last = moment_of l })
+
+-- what each line of the yard does there; the other lines have no place in the yard
+abbrev pub YardCase : SetupParts → RunYard → Line → RunYard → Act → Type 0
+YardCase setup y l next (acts.Make name group bucket base bound) = NoMark l × Makes setup y l next name group bucket base bound
+YardCase setup y l next (acts.Enter at head) = ⊥
+YardCase setup y l next acts.Select = ⊥
+YardCase setup y l next (acts.Offer at) = ⊥
+YardCase setup y l next (acts.Pull name) = ⊥
+YardCase setup y l next (acts.Look at) = ⊥
+YardCase setup y l next acts.Aim = ⊥
+YardCase setup y l next (acts.Ran us) = ⊥
+YardCase setup y l next acts.Sleep = SleepsFor y l next l.entry.thread l.mark
+YardCase setup y l next (acts.Wake name) = NoMark l × Wakes y l next name (first_sleeper y)
+YardCase setup y l next acts.End = NoMark l × Ends y l next l.entry.thread
+YardCase setup y l next acts.Blocked = NoMark l × Counts y l next
+YardCase setup y l next acts.Refresh = ⊥
+YardCase setup y l next (acts.Off at) = ⊥
+YardCase setup y l next (acts.On at) = ⊥
+
+-- a line leads the yard of a run from one state to the next, at a moment that is not before its last
+pub record YStep (setup : SetupParts) (y : RunYard) (l : Line) (next : RunYard) : Type 0 where
+  pub in_range : moment_of l < 2 ^ 40
+  pub not_before : y.last ≤ moment_of l
+  pub happens : YardCase setup y l next (act_of l)
+
+-- lines lead the yard from one state to another
+abbrev pub YRunFrom : SetupParts → RunYard → List Line → RunYard → Type 0
+YRunFrom setup y [] end = end ≡ y
+YRunFrom setup y (l ∷ ls) end = (next : RunYard) × YStep setup y l next × YRunFrom setup next ls end
+
+-- lines lead the empty yard to a state
+abbrev pub YRun : SetupParts → List Line → RunYard → Type 0
+YRun setup ls end = YRunFrom setup empty_run_yard ls end
