@@ -1,6 +1,9 @@
 pub mod Unpreceded
 pub mod Setup
 pub mod Ranges
+pub mod JournalParts
+pub mod IsSetup
+pub mod SetupInside
 pub mod Usage
 pub mod Queue
 pub mod WellFormed
