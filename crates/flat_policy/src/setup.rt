@@ -4,6 +4,8 @@ ghost use Rattle.std.specs.Prelude.{◌≡◌, ◌≤◌, ◌<◌, length, slice
 ghost use Rattle.flat_policy.specs.Setup.{actor_count, cluster_count, cluster_times, cpus_of, group_count, home_of, preferred_cluster, rate_of, times_for};
 ghost use Rattle.flat_policy.specs.Machine.{fits_act, fits_step};
 
+mod ranges;
+
 use bucket_tables::Table;
 use sched_base::{Act, Bucket, Step};
 use std::alloc::{AllocError, Global};
