@@ -4,6 +4,7 @@ pub mod Ranges
 pub mod JournalParts
 pub mod IsSetup
 pub mod SetupInside
+pub mod BuildFaults
 pub mod Usage
 pub mod Queue
 pub mod WellFormed

@@ -1,6 +1,7 @@
 -- How a setup lies in its fields.
-use Rattle.std.specs.Prelude.{List, length, map, slice_index, take, ℕ, ◌+◌, ◌≡◌}
+use Rattle.std.specs.Prelude.{All, List, length, map, slice_index, take, ℕ, ◌+◌, ◌<◌, ◌^◌, ◌≡◌}
 use Rattle.flat_policy.specs.IsSetup.{IsSetup}
+use Rattle.flat_policy.specs.Ranges.{times_of_rows}
 use Rattle.flat_policy.specs.Setup.{ClusterParts, SetupParts, actor_count, numbers_below}
 use Rattle.flat_policy.specs.declared.setup.ClusterSize.{ClusterSize}
 use Rattle.flat_policy.specs.declared.setup.Setup.TheInside.{Inside}
@@ -33,3 +34,22 @@ pub record IsInside (s : Inside) : Type 0 where
   pub setup : IsSetup (inside_parts s)
   pub actors : s.actors ≡ actor_count (inside_parts s)
   pub rows : length s.times ≡ 8
+
+-- a cluster's size out of its row of numbers
+abbrev pub size_of_row : List ℕ → ClusterSize
+size_of_row row = record { cpus = slice_index row 0; rate = slice_index row 1 }
+
+-- the times of one cluster out of its rows
+abbrev pub times_of_cluster : List (List ℕ) → List Times
+times_of_cluster rows = map (times_of_rows rows) (numbers_below 6)
+
+-- rows whose numbers fit the fields
+abbrev pub FitsSize : List ℕ → Type 0
+FitsSize row = (slice_index row 0 < 2 ^ 8) × (slice_index row 1 < 2 ^ 32)
+
+abbrev pub FitsEdge : List ℕ → Type 0
+FitsEdge row =
+    (slice_index row 0 < 2 ^ 8) × (slice_index row 1 < 2 ^ 8) × (slice_index row 2 < 2 ^ 32) × (slice_index row 4 < 2 ^ 8)
+
+abbrev pub FitsGroup : List ℕ → Type 0
+FitsGroup row = All (λ c. c < 2 ^ 8) row

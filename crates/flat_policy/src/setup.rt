@@ -4,6 +4,7 @@ ghost use Rattle.std.specs.Prelude.{◌≡◌, ◌≤◌, ◌<◌, length, slice
 ghost use Rattle.flat_policy.specs.Setup.{actor_count, cluster_count, cluster_times, cpus_of, group_count, home_of, preferred_cluster, rate_of, times_for};
 ghost use Rattle.flat_policy.specs.Machine.{fits_act, fits_step};
 
+mod lists;
 mod ranges;
 
 use bucket_tables::Table;
@@ -40,6 +41,28 @@ pub enum Field {
     Threads,
     Times,
     Version,
+}
+
+/// Why a setup is not built.
+#[derive(Clone, Copy, Debug, PartialEq, Eq, thiserror::Error)]
+pub enum BuildError {
+    /// The first field out of its range.
+    #[error("{0:?} is out of range")]
+    Range(Field),
+    /// Want of memory.
+    #[error("out of memory")]
+    Memory,
+}
+
+impl From<AllocError> for BuildError {
+    ghost use Rattle.std.specs.Prelude.{◌≡◌};
+    ghost use Rattle.flat_policy.specs.declared.setup.BuildError.TheVariants.{Memory};
+
+    ghost from_gives = { λ _ e. e ≡ Memory };
+
+    fn from(_e: AllocError) -> BuildError {
+        BuildError::Memory
+    }
 }
 
 /// A cluster: how many processors it has, and how much work each does in 1000 microseconds.
