@@ -5,6 +5,7 @@ pub mod JournalParts
 pub mod IsSetup
 pub mod SetupInside
 pub mod BuildFaults
+pub mod RowParts
 pub mod Usage
 pub mod Queue
 pub mod WellFormed

@@ -1,15 +1,17 @@
 //! The setup: the clusters, the edges between them, the groups and the times.
 
-ghost use Rattle.std.specs.Prelude.{◌≡◌, ◌≤◌, ◌<◌, length, slice_get, Some, IfOk};
-ghost use Rattle.flat_policy.specs.Setup.{actor_count, cluster_count, cluster_times, cpus_of, group_count, home_of, preferred_cluster, rate_of, times_for};
+ghost use Rattle.std.specs.Prelude.{◌≡◌, ◌≤◌, ◌<◌, length, map, slice_get, sum_by};
+ghost use Rattle.flat_policy.specs.Setup.{actor_count, cluster_count, cluster_times, cpus_of, group_count, home_among, home_of, preferred_cluster, rate_of, times_for};
 ghost use Rattle.flat_policy.specs.Machine.{fits_act, fits_step};
+ghost use Rattle.flat_policy.specs.SetupInside.{parts_of_size};
 
+mod build;
 mod lists;
 mod ranges;
 
 use bucket_tables::Table;
 use sched_base::{Act, Bucket, Step};
-use std::alloc::{AllocError, Global};
+use std::alloc::AllocError;
 use std::marker::Model;
 
 /// The three times of a bucket in a cluster, in microseconds.
@@ -171,6 +173,16 @@ impl Setup {
         }
     }
 
+    /// The cluster of an actor. Actors are numbered through all clusters, those of cluster 0
+    /// first.
+    pub fn home(&self, actor: u8) -> u8
+        requires { actor < actor_count self.now }
+        ensures home { result ≡ home_of self.now actor }
+        ensures below { result < cluster_count self.now }
+    {
+        home_among(&self.clusters, actor)
+    }
+
     /// The preferred cluster of a group for a bucket.
     pub fn prefer(&self, group: u8, bucket: Bucket) -> u8
         requires { group < group_count self.now }
@@ -212,4 +224,21 @@ impl Setup {
             _ => true,
         }
     }
+}
+
+/// The place of the cluster that has an actor, with the actors numbered through all clusters.
+fn home_among(clusters: &[ClusterSize], actor: u8) -> u8
+    requires some { actor < sum_by (λ k. k.cpus) clusters.now }
+    requires few { length clusters.now ≤ 8 }
+    ensures home { result ≡ home_among (map parts_of_size clusters.now) actor }
+    ensures below { result < length clusters.now }
+{
+    let mut left = actor;
+    for (c, size) in clusters.iter().enumerate() {
+        if left < size.cpus {
+            return c as u8;
+        }
+        left -= size.cpus;
+    }
+    unreachable!()
 }
