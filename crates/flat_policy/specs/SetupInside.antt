@@ -53,3 +53,7 @@ FitsEdge row =
 
 abbrev pub FitsGroup : List ℕ → Type 0
 FitsGroup row = All (λ c. c < 2 ^ 8) row
+
+-- rows of six numbers each
+abbrev pub HasSixes : List (List ℕ) → Type 0
+HasSixes rows = All (λ row. length row ≡ 6) rows

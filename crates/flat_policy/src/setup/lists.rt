@@ -2,7 +2,7 @@
 
 ghost use Rattle.std.specs.Prelude.{◌≡◌, ◌≤◌, All, IfOk, length, map, take};
 ghost use Rattle.flat_policy.specs.Ranges.{edge_of_row};
-ghost use Rattle.flat_policy.specs.SetupInside.{FitsEdge, FitsGroup, FitsSize, row_times, size_of_row, times_of_cluster};
+ghost use Rattle.flat_policy.specs.SetupInside.{FitsEdge, FitsGroup, FitsSize, HasSixes, row_times, size_of_row, times_of_cluster};
 
 use crate::setup::{ClusterSize, EdgeSpec};
 use bucket_tables::{Table, each_bucket};
@@ -64,6 +64,7 @@ pub(super) fn time_table(times: &[[[u64; 6]; 3]]) -> Table<8, 18>
     requires { length times.now ≤ 8 }
     ensures rows { map row_times (take (length times.now) result) ≡ map times_of_cluster times.now }
     ensures len { length result ≡ 8 }
+    ensures sixes { All HasSixes times.now }
 {
     let mut table = Table::<8, 18>::filled(0);
     for (c, rows) in times.iter().enumerate() {
@@ -73,10 +74,12 @@ pub(super) fn time_table(times: &[[[u64; 6]; 3]]) -> Table<8, 18>
 }
 
 /// One row of WCEL, WARP and QUANTUM, each by bucket index.
-fn time_row(rows: &[[u64; 6]; 3]) -> [u64; 18]
-    ensures { row_times result ≡ times_of_cluster rows.now }
+fn time_row(rows: &[[u64; 6]]) -> [u64; 18]
+    requires { length rows.now ≡ 3 }
+    ensures times { row_times result ≡ times_of_cluster rows.now }
+    ensures sixes { HasSixes rows.now }
 {
-    let [wcel, warp, quantum] = *rows;
+    let (wcel, warp, quantum) = (rows[0], rows[1], rows[2]);
     let mut row = [0; 18];
     each_bucket!(bucket => {
         let column = bucket.index() as usize;
