@@ -33,6 +33,11 @@ none_out p q r s true false c d h = absurd (cc)
 none_out p q r s true true false d h = absurd (cc)
 none_out p q r s true true true false h = absurd (cc)
 
+-- where no field is out, the first is in range
+pub head_in : (f : Field) (b : Bool) (rs : List Ranged) → first_out (ranged f b ∷ rs) ≡ None → b ≡ true
+head_in f true rs h = refl
+head_in f false rs h = absurd (cc)
+
 -- the fields that both versions have are in range
 pub record InRange (clusters edges groups : List (List ℕ)) (threads : ℕ) : Type 0 where
   pub clusters_pass : clusters_in_range clusters ≡ true

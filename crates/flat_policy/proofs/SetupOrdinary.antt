@@ -1,12 +1,15 @@
 -- The times of version 1 in rows.
-use Rattle.std.proofs.Common.{Bool, List, [], ap, arith, length, length-take, map, refl, replicate, suc, sym, take, true, zero, ℕ, ◌<◌, ◌∷◌, ◌∙◌, ◌≡◌, ◌≤◌}
-use Rattle.std.specs.Prelude.{All}
+use Rattle.std.proofs.Common.{Bool, List, [], arith, drop, length, length-take-le, refl, replicate, suc, take, true, zero, ℕ, ◌∷◌, ◌≡◌, ◌≤◌}
+use Rattle.std.specs.Prelude.{All, None, ◌++◌, ◌==◌}
+use Rattle.std.specs.Cmp.Derive.{both_true}
 use Rattle.std.specs.List.{list_all}
 use Rattle.std.proofs.lemmas.Bool.{eq-eqb}
-use Rattle.std.proofs.lemmas.List.{get_or-take, length-map, take-replicate}
+use Rattle.std.proofs.lemmas.List.{length-replicate, take-replicate}
+use Rattle.flat_policy.proofs.SetupFields.{clusters_pass, head_in}
 use Rattle.flat_policy.proofs.SetupTimeRows.{ordinary_times}
-use Rattle.flat_policy.specs.Ranges.{cluster_of_row, is_times_row, parts_of, times_in_range}
+use Rattle.flat_policy.specs.Ranges.{clusters_in_range, common_ranges, first_out_of_range, is_times_row, parts_of, ranged, times_in_range}
 use Rattle.flat_policy.specs.RowParts.{ordinary_rows, parts_of_rows}
+use Rattle.flat_policy.specs.declared.setup.Field.TheVariants as fields
 
 -- the test holds of each copy
 list_all-replicate : {X : Type 0} (p : X → Bool) (n : ℕ) (x : X) → p x ≡ true → list_all p (replicate n x) ≡ true
@@ -28,7 +31,9 @@ taken n rows h = take-replicate n 8 rows h
 
 -- their ranges
 pub ordinary_in_range : (n : ℕ) (rows : List (List ℕ)) → rows ≡ ordinary_rows → n ≤ 8 → times_in_range n (take n (copies rows)) ≡ true
-ordinary_in_range n rows is h = ?
+ordinary_in_range n rows is h =
+    rw (taken n rows h, is)
+    (both_true (eq-eqb (length (replicate n ordinary_rows)) n (length-replicate n ordinary_rows)) (list_all-replicate is_times_row n ordinary_rows refl))
 
 -- each is the one
 pub ordinary_each : (n : ℕ) (rows : List (List ℕ)) → rows ≡ ordinary_rows → n ≤ 8 → All (λ r. r ≡ ordinary_rows) (take n (copies rows))
@@ -38,4 +43,12 @@ ordinary_each n rows is h = rw (taken n rows h, is) (all_copies n ordinary_rows)
 pub ordinary_parts : (clusters edges groups : List (List ℕ)) (threads : ℕ) (rows : List (List ℕ)) →
     rows ≡ ordinary_rows → length clusters ≤ 8 →
     parts_of_rows clusters edges groups threads (take (length clusters) (copies rows)) 1 ≡ parts_of clusters edges groups threads
-ordinary_parts clusters edges groups threads rows is h = ?
+ordinary_parts clusters edges groups threads rows is h =
+    let times = take (length clusters) (copies rows) in
+    rw (ordinary_times times clusters (ordinary_each (length clusters) rows is h) (length-take-le (length clusters) (copies rows) h)) refl
+
+-- a setup in range has at most eight clusters
+pub few_clusters : (clusters edges groups : List (List ℕ)) (threads version : ℕ) →
+    first_out_of_range clusters edges groups threads version ≡ None → length clusters ≤ 8
+few_clusters clusters edges groups threads version h =
+    (clusters_pass clusters (head_in fields.Clusters (clusters_in_range clusters) (drop 1 (common_ranges clusters edges groups threads) ++ ranged fields.Version (version == 1) ∷ []) h)).most

@@ -8,7 +8,7 @@ use Rattle.flat_policy.proofs.SetupRows.{all_map}
 use Rattle.flat_policy.specs.IsSetup.{IsClusterTimes, IsTimes}
 use Rattle.flat_policy.specs.Ranges.{between, is_times_row, nth, row_of_times, times_of_rows}
 use Rattle.flat_policy.specs.RowParts.{ordinary_rows}
-use Rattle.flat_policy.specs.Setup.{ClusterParts, all_buckets, numbers_below, times_of_version_one}
+use Rattle.flat_policy.specs.Setup.{all_buckets, numbers_below, times_of_version_one}
 use Rattle.flat_policy.specs.SetupInside.{HasSixes, times_of_cluster}
 
 -- the numbers below six
@@ -79,7 +79,7 @@ cluster_times_pass rows h three sixes =
     }
 
 -- those of version 1 are the same for each cluster
-pub ordinary_times : (times : List (List (List ℕ))) (clusters : List ClusterParts) →
+pub ordinary_times : {X : Type 0} (times : List (List (List ℕ))) (clusters : List X) →
     All (λ rows. rows ≡ ordinary_rows) times → length times ≡ length clusters →
     map times_of_cluster times ≡ map (λ _. map times_of_version_one all_buckets) clusters
 ordinary_times [] [] all same = refl
