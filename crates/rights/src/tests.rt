@@ -52,22 +52,22 @@ fn shares_and_the_book_cross_threads(rt: HostRuntime) -> Result<(), Fail> {
         &rt,
         move ||
             requires { (book.desk ≡ at.now) × (first.desk ≡ at.now) }
-            ensures { result ≡ record book.entry { parked = book.entry.parked + first.entry.amount } }
+            ensures { result ≡ record book { parked = book.parked + first.amount } }
         { park(at, book, first) },
         move ||
             requires { (second.desk ≡ at.now) × (1 ≤ second.amount) }
-            ensures { result ≡ second.entry }
+            ensures { result ≡ second }
         { cut(at, second, 1) },
     );
     let (book, third) = join(
         &rt,
         move ||
             requires { (book.desk ≡ at.now) × (second.desk ≡ at.now) }
-            ensures { result ≡ record book.entry { parked = book.entry.parked + second.entry.amount } }
+            ensures { result ≡ record book { parked = book.parked + second.amount } }
         { park(at, book, second) },
         move ||
             requires { (third.desk ≡ at.now) × (1 ≤ third.amount) }
-            ensures { result ≡ third.entry }
+            ensures { result ≡ third }
         { cut(at, third, 1) },
     );
     let book = park(at, book, third);
