@@ -1,12 +1,12 @@
 -- Sums over the views of a desk.
-use Rattle.std.proofs.Common.{◌≡◌, ℕ, zero, suc, ◌+◌, ◌<◌, ◌≤◌, List, [], ◌∷◌, ◌++◌, length, get_or, set, refl, sym, ap, ◌∙◌, arith}
+use Rattle.std.proofs.Common.{◌≡◌, ℕ, zero, suc, ◌+◌, ◌<◌, ◌≤◌, List, [], ◌∷◌, length, get_or, set, refl, sym, ap, ◌∙◌, arith}
 use Rattle.std.specs.Prelude.{sum_by}
-use Rattle.std.proofs.lemmas.List.Sums.{sum_by-set, sum_by-cons, sum_by_push}
+use Rattle.std.proofs.lemmas.List.Sums.{sum_by-set, sum_by-cons}
 use mathlib.Core.Option.{some, some-injective, some-ne-none}
 use lib.ListN.{get_elem?}
 use Rattle.rights.specs.declared.view.View.{View}
 use Rattle.rights.specs.declared.view.View.TheVariants.{Own, Part}
-use Rattle.rights.specs.Rule.{own, share, books_of, minted_of, amount_of}
+use Rattle.rights.specs.Rule.{own, share, books_of, minted_of}
 
 -- an element that is there is within the list
 within : (views : List View) (i : ℕ) (v : View) → get_elem? views i ≡ some v → (i < length views) × (get_or views i v ≡ v)

@@ -1,5 +1,5 @@
 -- The rule of a desk, over what its tokens know, and what each kind of step does to the token that makes it.
-use Rattle.std.specs.Prelude.{◌≡◌, ℕ, ◌+◌, ◌-◌, ◌<◌, ◌≤◌, ◌^◌, [], ◌∷◌, List, sum_by}
+use Rattle.std.specs.Prelude.{◌≡◌, ℕ, ◌+◌, ◌-◌, ◌<◌, ◌≤◌, ◌^◌, [], ◌∷◌, sum_by}
 use Rattle.atomic_table.specs.Table.{State, Me, Step}
 use Rattle.rights.specs.declared.view.View.{View}
 use Rattle.rights.specs.declared.view.View.TheVariants.{Own, Part}

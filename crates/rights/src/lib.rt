@@ -14,3 +14,12 @@ pub use share::Share;
 
 #[cfg(test)]
 mod tests;
+
+// What crosses threads: a book, a share and a reference to a desk.
+trait Crosses: Send {}
+
+impl Crosses for Book {}
+
+impl Crosses for Share {}
+
+impl<'a> Crosses for &'a Desk {}
