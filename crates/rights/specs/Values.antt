@@ -9,16 +9,16 @@ DeskId = TableId
 
 -- the rights of a desk: how many are minted, and how many of them are parked with the book
 pub record Account : Type 0 where
-  pub desk : TableId
+  pub desk : DeskId
   pub minted : ℕ
   pub parked : ℕ
 
 -- some rights of a desk
 pub record Holding : Type 0 where
-  pub desk : TableId
+  pub desk : DeskId
   pub amount : ℕ
 
 -- what a token knows of a desk
 pub record Insight : Type 0 where
-  pub desk : TableId
+  pub desk : DeskId
   pub view : View

@@ -10,7 +10,7 @@ use std::marker::{Brand, Model};
 /// A seat that holds no slot. Contracts see which desk it is of, and what it knows.
 #[derive(Drop)]
 pub struct Token {
-    pub seat: Seat<(), View>,
+    pub(crate) seat: Seat<(), View>,
 }
 
 impl Model for Token {
@@ -26,7 +26,7 @@ impl Model for Token {
 
 impl Desk {
     /// Mints `n` rights, which lie with the book.
-    pub fn mint(&self, book: &mut Token, n: u64)
+    pub(crate) fn mint(&self, book: &mut Token, n: u64)
         requires own { book.old.desk ≡ self.now }
         requires room { MayMint n book.old.view }
         ensures { book.new ≡ record book.old { view = minted_more n book.old.view } }
@@ -35,7 +35,7 @@ impl Desk {
     }
 
     /// Ends `n` rights that lie with the book.
-    pub fn burn(&self, book: &mut Token, n: u64)
+    pub(crate) fn burn(&self, book: &mut Token, n: u64)
         requires own { book.old.desk ≡ self.now }
         requires enough { MayBurn n book.old.view }
         ensures { book.new ≡ record book.old { view = minted_less n book.old.view } }
@@ -44,7 +44,7 @@ impl Desk {
     }
 
     /// Cuts `n` rights off, as a share.
-    pub fn split(&self, token: &mut Token, n: u64) -> Token
+    pub(crate) fn split(&self, token: &mut Token, n: u64) -> Token
         requires own { token.old.desk ≡ self.now }
         requires enough { n ≤ amount_of token.old.view }
         ensures kept { token.new ≡ record token.old { view = less n token.old.view } }
@@ -54,7 +54,7 @@ impl Desk {
     }
 
     /// Takes in the rights of a share, and is told what the rule says of both together.
-    pub fn join(&self, token: &mut Token, other: Token)
+    pub(crate) fn join(&self, token: &mut Token, other: Token)
         requires own { (token.old.desk ≡ self.now) × (other.desk ≡ self.now) }
         requires share { books_of other.view ≡ 0 }
         ensures taken { token.new ≡ record token.old { view = more (amount_of other.view) token.old.view } }
