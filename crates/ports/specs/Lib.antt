@@ -1,0 +1,3 @@
+-- What contracts on sources and sinks cite.
+pub mod Devices
+pub mod Pieces
