@@ -1,7 +1,7 @@
 -- Readers as functions on lists: what was read from the front, and the rest. That they read just the texts is
 -- proved; nothing rests on them.
 use Rattle.std.specs.Prelude.{◌≡◌, ℕ, ◌+◌, ◌-◌, ◌*◌, ◌<◌, ◌^◌, Bool, true, false, not, ◌&&◌, ◌==◌, nat_eq, nat_le, Option, None, Some, List, [], ◌∷◌, ◌++◌, codes, take, drop, length, if◌then◌else◌}
-use Rattle.std.specs.List.{prefix_len, pointwise, position_or_len}
+use Rattle.std.specs.Cmp.Lexicographic.{pointwise}
 use Rattle.std.specs.Option.{option_and_then}
 use Rattle.std.specs.Char.{is_ascii_digit}
 use Rattle.sched_base.specs.declared.buckets.Bucket.TheVariants.{Fg}
@@ -21,7 +21,8 @@ or_else (Some x) y = Some x
 
 -- how many digits stand at the front
 abbrev pub digit_count : List ℕ → ℕ
-digit_count bytes = position_or_len (λ c. not (is_ascii_digit c)) bytes
+digit_count [] = 0
+digit_count (c ∷ cs) = if is_ascii_digit c then digit_count cs + 1 else 0
 
 -- the number that more digits make of a number
 abbrev pub value_after : ℕ → List ℕ → ℕ

@@ -200,7 +200,11 @@ impl Machine {
         let Some(at) = picked_at(&self.queue) else {
             return Some(Answer::Empty);
         };
-        let Queued { thread, .. } = self.queue.remove(at);
+        let Queued {
+            thread,
+            pri: _,
+            arrival: _,
+        } = self.queue.remove(at);
         let name = thread.facts().name;
         hold(&mut self.hand, thread);
         Some(Answer::Got(name))
@@ -210,10 +214,19 @@ impl Machine {
     pub fn close(self) {
         let Machine {
             mut queue,
+            next_arrival: _,
             hand,
-            ..
+            made: _,
+            actor_last: _,
+            cluster_last: _,
+            yard_last: _,
         } = self;
-        while let Some(Queued { thread, .. }) = queue.pop() {
+        while let Some(entry) = queue.pop() {
+            let Queued {
+                thread,
+                pri: _,
+                arrival: _,
+            } = entry;
             let _facts = thread.into_facts();
         }
         queue.destroy_empty();

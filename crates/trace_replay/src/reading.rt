@@ -1,6 +1,6 @@
 //! Reading the lines of a trace. Each reader answers what it read from the front, and the rest.
 
-ghost use Rattle.std.specs.Prelude.{◌≡◌, ◌≤◌, ◌<◌, ◌^◌, length, option_map};
+ghost use Rattle.std.specs.Prelude.{◌≡◌, ◌≤◌, ◌<◌, ◌^◌, length, option_map, IfSome};
 ghost use Rattle.trace_replay.specs.Reading.{digit_count, value_within, numeral_at, make_at, enter_at, select_at, act_at, step_at};
 
 use sched_base::{Act, Bucket, Step};
@@ -16,16 +16,19 @@ fn digits_at(bytes: &[u8]) -> usize
     ensures count { result ≡ digit_count bytes.now }
     ensures within { result ≤ length bytes.now }
 {
-    bytes
-        .iter()
-        .position(|byte| !byte.is_ascii_digit())
-        .unwrap_or(bytes.len())
+    for (count, byte) in bytes.iter().enumerate() {
+        if !byte.is_ascii_digit() {
+            return count;
+        }
+    }
+    bytes.len()
 }
 
 /// The number that the digits spell, unless it exceeds `most`.
 fn value_of(digits: &[u8], most: u64) -> Option<u64>
     requires { most < 2 ^ 40 }
-    ensures { result ≡ value_within most digits.now }
+    ensures value { result ≡ value_within most digits.now }
+    ensures small { IfSome result (λ value. value ≤ most) }
 {
     let mut value = 0;
     for digit in digits {
@@ -38,9 +41,11 @@ fn value_of(digits: &[u8], most: u64) -> Option<u64>
 }
 
 /// A numeral, which doesn't begin with a needless 0, of at most `most`.
+#[tactic(auto, unfolding(crate::specs::Reading::numeral_at))]
 fn numeral(bytes: &[u8], most: u64) -> Option<(u64, &[u8])>
     requires { most < 2 ^ 40 }
-    ensures { option_map (λ found. (found.0, found.1.now)) result ≡ numeral_at most bytes.now }
+    ensures read { option_map (λ found. (found.0, found.1.now)) result ≡ numeral_at most bytes.now }
+    ensures small { IfSome result (λ found. found.0 ≤ most) }
 {
     let (digits, rest) = bytes.split_at(digits_at(bytes));
     match digits {
@@ -49,6 +54,7 @@ fn numeral(bytes: &[u8], most: u64) -> Option<(u64, &[u8])>
     }
 }
 
+#[tactic(auto, unfolding(crate::specs::Reading::make_at))]
 fn read_make(bytes: &[u8]) -> Option<(Act, &[u8])>
     ensures { option_map (λ found. (found.0, found.1.now)) result ≡ make_at bytes.now }
 {
@@ -67,6 +73,7 @@ fn read_make(bytes: &[u8]) -> Option<(Act, &[u8])>
     Some((act, rest))
 }
 
+#[tactic(auto, unfolding(crate::specs::Reading::enter_at))]
 fn read_enter(bytes: &[u8]) -> Option<(Act, &[u8])>
     ensures { option_map (λ found. (found.0, found.1.now)) result ≡ enter_at bytes.now }
 {
@@ -78,6 +85,7 @@ fn read_enter(bytes: &[u8]) -> Option<(Act, &[u8])>
     Some((act, rest))
 }
 
+#[tactic(auto, unfolding(crate::specs::Reading::select_at))]
 fn read_select(bytes: &[u8]) -> Option<(Act, &[u8])>
     ensures { option_map (λ found. (found.0, found.1.now)) result ≡ select_at bytes.now }
 {
@@ -85,6 +93,7 @@ fn read_select(bytes: &[u8]) -> Option<(Act, &[u8])>
     Some((Act::Select, rest))
 }
 
+#[tactic(auto, unfolding(crate::specs::Reading::act_at))]
 fn read_act(bytes: &[u8]) -> Option<(Act, &[u8])>
     ensures { option_map (λ found. (found.0, found.1.now)) result ≡ act_at bytes.now }
 {
@@ -94,6 +103,7 @@ fn read_act(bytes: &[u8]) -> Option<(Act, &[u8])>
 }
 
 /// The step on the line at the front, where the line is one that is answered.
+#[tactic(auto, unfolding(crate::specs::Reading::step_at))]
 pub fn read_step(bytes: &[u8]) -> Option<(Step, &[u8])>
     ensures { option_map (λ found. (found.0, found.1.now)) result ≡ step_at bytes.now }
 {
