@@ -15,6 +15,6 @@ too_large most ds past = grind (arith, nat_tests)
 -- once a front of the digits spells a number past the bound, so do all
 pub past_most : (most n i : ℕ) (ds : List ℕ) → i < length ds → value_after n (drop i ds) ≡ value_after 0 ds → most < n * 10 + (get_or ds i 0 - 48) → ◌≡◌ {A = Option ℕ} None (value_within most ds)
 past_most most n i ds within rest past =
-  let split : value_after n (drop i ds) ≡ value_after (n * 10 + (get_or ds i 0 - 48)) (drop (i + 1) ds) = ap (value_after n) (drop-cons ds i 0 within) ∙ rw add-one refl in
-  let more : n * 10 + (get_or ds i 0 - 48) ≤ value_after (n * 10 + (get_or ds i 0 - 48)) (drop (i + 1) ds) = grows (n * 10 + (get_or ds i 0 - 48)) (drop (i + 1) ds) in
-  too_large most ds (omega arith)
+    let split : value_after n (drop i ds) ≡ value_after (n * 10 + (get_or ds i 0 - 48)) (drop (i + 1) ds) = ap (value_after n) (drop-cons ds i 0 within) ∙ rw add-one refl in
+    let more : n * 10 + (get_or ds i 0 - 48) ≤ value_after (n * 10 + (get_or ds i 0 - 48)) (drop (i + 1) ds) = grows (n * 10 + (get_or ds i 0 - 48)) (drop (i + 1) ds) in
+    too_large most ds (omega arith)

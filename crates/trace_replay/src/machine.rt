@@ -1,14 +1,12 @@
 //! The machine: one cluster's queue, and the hand of its one actor.
 
-ghost use Rattle.std.specs.Prelude.{◌≡◌, ◌≤◌, ◌<◌, ◌+◌, ◌^◌, ◌↔◌, length, Option, Some, None, is_none, IsNone, IfSome, IfNone, IfOk, MatchOption, IsTrue, slice_get, max};
-ghost use Rattle.std.specs.List.{list_any};
-ghost use Rattle.sched_base.specs.Facts.{fresh};
-ghost use Rattle.flat_policy.specs.FirstForm.{pick, precedes};
-ghost use Rattle.flat_policy.specs.FirstGame.{empty, effective, outcome, made_at, entered_at, selected_at, may_make, place_last};
+ghost use Rattle.std.specs.Prelude.{◌≡◌, ◌≤◌, ◌<◌, ◌+◌, ◌^◌, length, Some, None, IsNone, IfSome, IfNone, IfOk, IsSomeAnd, IsTrue, slice_get, option_map, ◌⊎◌};
+ghost use Rattle.flat_policy.specs.FirstForm.{pick, better, precedes};
+ghost use Rattle.flat_policy.specs.FirstGame.{empty, effective, outcome, made_at, entered_at, selected_at, may_make};
 ghost use Rattle.trace_replay.specs.Texts.{IsInForm};
 
 use flat_policy::Queued;
-use sched_base::{Act, Answer, Bucket, Step, Thread};
+use sched_base::{Act, Answer, Step, Thread};
 use std::alloc::{AllocError, Global};
 use std::marker::Model;
 use std::mem::replace;
@@ -54,20 +52,32 @@ fn goes_before(x: &Queued, y: &Queued) -> bool
     x.pri > y.pri || x.pri == y.pri && x.arrival < y.arrival
 }
 
+/// The better of the best entry so far and one more, each with its place.
+fn better_of<'a>(
+    best: Option<(usize, &'a Queued)>,
+    at: usize,
+    entry: &'a Queued,
+) -> Option<(usize, &'a Queued)>
+    ensures better { option_map (λ b. b.1.now) result ≡ better (option_map (λ b. b.1.now) best.entry) entry.now }
+    ensures place { IfSome result (λ b. IsSomeAnd best.entry (λ old. (b.0 ≡ old.0) × (b.1.now ≡ old.1.now)) ⊎ ((b.0 ≡ at) × (b.1.now ≡ entry.now))) }
+{
+    match best {
+        Some((place, leader)) if !goes_before(entry, leader) => Some((place, leader)),
+        _ => Some((at, entry)),
+    }
+}
+
 /// The place of the pick, which no other entry precedes.
 fn picked_at(queue: &[Queued]) -> Option<usize>
     ensures none { IfNone result (pick queue.now ≡ None) }
     ensures within { IfSome result (λ at. at < length queue.now) }
     ensures found { IfSome result (λ at. pick queue.now ≡ slice_get queue.now at) }
 {
-    let mut best = None;
+    let mut best: Option<(usize, &Queued)> = None;
     for (at, entry) in queue.iter().enumerate() {
-        best = match best {
-            Some(leader) if !goes_before(entry, &queue[leader]) => Some(leader),
-            _ => Some(at),
-        };
+        best = better_of(best, at, entry);
     }
-    best
+    best.map(|(at, _)| at)
 }
 
 /// Puts a thread into an empty hand.
@@ -105,7 +115,8 @@ impl Machine {
     /// The effective moment of a step, in microseconds: the greatest of its own, the actor's last
     /// and its place's last.
     pub fn effective(&self, step: &Step) -> u64
-        ensures { result ≡ effective self.now step.now }
+        ensures moment { result ≡ effective self.now step.now }
+        ensures small { step.now.moment < 2 ^ 40 → result < 2 ^ 40 }
     {
         let place_last = match step.act {
             Act::Make { .. } => self.yard_last,

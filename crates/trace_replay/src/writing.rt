@@ -1,10 +1,23 @@
 //! Writing the lines of a trace with their answers.
 
 ghost use Rattle.std.specs.Prelude.{◌≡◌, ◌++◌, OnOk, string_bytes};
-ghost use Rattle.trace_replay.specs.Texts.{step_text, answer_text, output_line};
+ghost use Rattle.trace_replay.specs.Texts.{act_text, step_text, answer_text, output_line};
 
 use sched_base::{Act, Answer, Step};
 use std::alloc::AllocError;
+
+/// Adds the text of an act.
+fn write_act(out: &mut String, act: &Act) -> Result<(), AllocError>
+    ensures { OnOk result (string_bytes out.new ≡ string_bytes out.old ++ act_text act.now) }
+{
+    match *act {
+        Act::Make { name, base, .. } => write!(out, "make {name} 0 FG {base} -")?,
+        Act::Enter { .. } => out.push_str("enter 0 tail")?,
+        Act::Select => out.push_str("select")?,
+        _ => {}
+    }
+    Ok(())
+}
 
 /// Adds the text of a step.
 fn write_step(out: &mut String, step: &Step) -> Result<(), AllocError>
@@ -12,13 +25,7 @@ fn write_step(out: &mut String, step: &Step) -> Result<(), AllocError>
 {
     let moment = step.moment;
     write!(out, "{moment} 0 ")?;
-    match step.act {
-        Act::Make { name, base, .. } => write!(out, "make {name} 0 FG {base} -")?,
-        Act::Enter { .. } => out.push_str("enter 0 tail")?,
-        Act::Select => out.push_str("select")?,
-        _ => {}
-    }
-    Ok(())
+    write_act(out, &step.act)
 }
 
 /// Adds the text of an answer.
