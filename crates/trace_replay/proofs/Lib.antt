@@ -1,3 +1,5 @@
 pub mod Keeping
+pub mod Numbers
 pub mod Numerals
 pub mod Picking
+pub mod Spelling

@@ -1,7 +1,9 @@
 //! Reading the lines of a trace. Each reader answers what it read from the front, and the rest.
 
-ghost use Rattle.std.specs.Prelude.{◌≡◌, ◌≤◌, ◌<◌, ◌^◌, length, option_map, IfSome};
+ghost use Rattle.std.specs.Prelude.{◌≡◌, ◌≤◌, ◌<◌, ◌^◌, ◌≢◌, ◌++◌, ℕ, List, length, option_map, IfSome, IfNone};
 ghost use Rattle.trace_replay.specs.Reading.{digit_count, value_within, numeral_at, make_at, enter_at, select_at, act_at, step_at};
+ghost use Rattle.sched_base.specs.declared.steps.Step.{Step};
+ghost use Rattle.trace_replay.specs.Texts.{IsInForm, step_line};
 
 use sched_base::{Act, Bucket, Step};
 
@@ -102,9 +104,9 @@ fn read_act(bytes: &[u8]) -> Option<(Act, &[u8])>
         .or_else(|| read_select(bytes))
 }
 
-/// The step on the line at the front, where the line is one that is answered.
+/// The step on the line at the front, and the rest.
 #[tactic(auto, unfolding(crate::specs::Reading::step_at))]
-pub fn read_step(bytes: &[u8]) -> Option<(Step, &[u8])>
+fn step_of(bytes: &[u8]) -> Option<(Step, &[u8])>
     ensures { option_map (λ found. (found.0, found.1.now)) result ≡ step_at bytes.now }
 {
     let (moment, rest) = numeral(bytes, LAST_MOMENT)?;
@@ -117,4 +119,14 @@ pub fn read_step(bytes: &[u8]) -> Option<(Step, &[u8])>
         act,
     };
     Some((step, rest))
+}
+
+/// The step on the line at the front, and the rest; `None` exactly where no step's line stands
+/// there.
+pub fn read_step(bytes: &[u8]) -> Option<(Step, &[u8])>
+    ensures form { IfSome result (λ found. IsInForm found.0) }
+    ensures text { IfSome result (λ found. bytes.now ≡ step_line found.0 ++ found.1.now) }
+    ensures none { IfNone result ((step : Step) (more : List ℕ) → IsInForm step → bytes.now ≢ step_line step ++ more) }
+{
+    step_of(bytes)
 }
