@@ -2,4 +2,5 @@
 pub mod Kept
 pub mod Outflow
 pub mod Reading
+pub mod Replay
 pub mod Texts

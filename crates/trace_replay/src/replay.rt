@@ -1,6 +1,10 @@
 //! The replay itself.
 
-ghost use Rattle.std.specs.Prelude.{◌≡◌};
+ghost use Rattle.std.specs.Prelude.{◌≡◌, ℕ, ◌≤◌, ◌<◌, ◌↔◌, ◌++◌, List, length, OnOk, IfOk, IfErr, IfSome, string_bytes};
+ghost use Rattle.sched_base.specs.declared.steps.Step.{Step};
+ghost use Rattle.ports.specs.Devices.{Rose};
+ghost use Rattle.flat_policy.specs.FirstGame.{empty};
+ghost use Rattle.trace_replay.specs.Replay.{lines_of, written, AreAnswered, IsInput, output_of, IsOutside, IsFirstOutside, Says};
 
 use crate::intake::{MOST, Taken, read_all};
 use crate::machine::Machine;
@@ -27,16 +31,26 @@ enum Stop {
 }
 
 impl From<AllocError> for Stop {
+    ghost use Rattle.std.specs.Prelude.{◌≡◌};
+    ghost use Rattle.trace_replay.specs.declared.replay.Stop.TheVariants.{Memory};
+
+    ghost from_gives = { λ _ e. e ≡ Memory };
+
     fn from(_error: AllocError) -> Stop {
         Stop::Memory
     }
 }
 
 /// Answers the lines of steps one after another, and adds each with its answer to `out`.
-fn replay_lines(machine: &mut Machine, lines: &[u8], out: &mut String) -> Result<(), Stop> {
+fn replay_lines(machine: &mut Machine, lines: &[u8], out: &mut String) -> Result<(), Stop>
+    requires start { machine.old ≡ empty }
+    requires short { length lines.now ≤ 65536 }
+    ensures done { OnOk result ((steps : List Step) × (lines.now ≡ lines_of steps) × AreAnswered steps × (string_bytes out.new ≡ string_bytes out.old ++ written empty steps)) }
+    ensures outside { IfErr result (λ stop. (line : ℕ) → stop ≡ Stop.Outside line → IsOutside lines.now line) }
+{
     let mut rest = lines;
     let mut line = 2;
-    while !rest.is_empty() {
+    'lines: while !rest.is_empty() {
         let Some((step, after)) = read_step(rest) else {
             return Err(Stop::Outside { line });
         };
@@ -52,7 +66,11 @@ fn replay_lines(machine: &mut Machine, lines: &[u8], out: &mut String) -> Result
 }
 
 /// The output of an input.
-fn output_of(alloc: Global, input: &[u8]) -> Result<String, Stop> {
+fn replayed(alloc: Global, input: &[u8]) -> Result<String, Stop>
+    requires { length input.now ≤ 65536 }
+    ensures done { IfOk result (λ out. (steps : List Step) × IsInput input.now steps × (string_bytes out ≡ output_of steps)) }
+    ensures outside { IfErr result (λ stop. (line : ℕ) → stop ≡ Stop.Outside line → IsFirstOutside input.now line) }
+{
     let Some(lines) = input.strip_prefix(SETUP.as_bytes()) else {
         return Err(Stop::Outside { line: 1 });
     };
@@ -65,8 +83,12 @@ fn output_of(alloc: Global, input: &[u8]) -> Result<String, Stop> {
 }
 
 /// Writes the output of an input.
-fn answer_input<K: Sink>(alloc: Global, input: &[u8], sink: &mut K) -> ReplayStatus {
-    match output_of(alloc, input) {
+fn answer_input<K: Sink>(alloc: Global, input: &[u8], sink: &mut K) -> ReplayStatus
+    requires { length input.now ≤ 65536 }
+    ensures says { Says input.now (K.taken sink.old) (K.taken sink.new) result }
+    ensures cause { result ≡ ReplayStatus.WriteFault → Rose (K.faults sink.old) (K.faults sink.new) }
+{
+    match replayed(alloc, input) {
         Ok(out) => match write_all(sink, out.as_bytes()) {
             Ok(()) => ReplayStatus::Done,
             Err(_) => ReplayStatus::WriteFault,
