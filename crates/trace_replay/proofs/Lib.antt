@@ -5,3 +5,4 @@ pub mod Picking
 pub mod Progress
 pub mod Runs
 pub mod Spelling
+pub mod Unique

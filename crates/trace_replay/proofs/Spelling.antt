@@ -34,6 +34,10 @@ pointwise_itself (x ∷ xs) =
     let same : eqb x x ≡ true = grind (arith, nat_tests) in
     rw same (pointwise_itself xs)
 
+-- what stands behind a prefix
+pub prefix_is : (w bytes rest : List ℕ) → pointwise nat_eq (take (length w) bytes) w ≡ true → rest ≡ drop (length w) bytes → bytes ≡ w ++ rest
+prefix_is w bytes rest same after = sym (take-append-drop (length w) bytes) ∙ rw (pointwise_same (take (length w) bytes) w same, ← after) refl
+
 word_takes : (w bytes rest : List ℕ) → word_at w bytes ≡ Some rest → bytes ≡ w ++ rest
 word_takes w bytes rest e = elim (cases_Bool (pointwise nat_eq (take (length w) bytes) w)) [
   | inl is ↦ let found : ◌≡◌ {A = Option (List ℕ)} (Some (drop (length w) bytes)) (Some rest) = rw is at e in

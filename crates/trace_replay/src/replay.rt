@@ -78,8 +78,10 @@ fn replayed(alloc: Global, input: &[u8]) -> Result<String, Stop>
     let mut machine = Machine::new(alloc)?;
     let ended = replay_lines(&mut machine, lines, &mut out);
     machine.close();
-    ended?;
-    Ok(out)
+    match ended {
+        Ok(()) => Ok(out),
+        Err(stop) => Err(stop),
+    }
 }
 
 /// Writes the output of an input.
