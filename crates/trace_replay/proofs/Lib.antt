@@ -1,4 +1,5 @@
 pub mod Keeping
+pub mod Meets
 pub mod Numbers
 pub mod Numerals
 pub mod Picking

@@ -1,5 +1,5 @@
 -- What a replay writes for what it reads.
-use Rattle.std.specs.Prelude.{◌≡◌, ◌≢◌, ℕ, ◌+◌, ◌⊎◌, Option, None, Some, IsSome, List, [], ◌∷◌, ◌++◌, length, codes}
+use Rattle.std.specs.Prelude.{◌≡◌, ◌≢◌, ℕ, ◌+◌, ◌≤◌, ◌<◌, ◌⊎◌, Option, None, Some, IsSome, List, [], ◌∷◌, ◌++◌, length, codes}
 use Rattle.std.specs.List.{flat_map, AllByRecursion}
 use Rattle.std.specs.Option.{option_and_then, option_map_or}
 use Rattle.std.specs.Io.KnownBytes.{Appends}
@@ -70,3 +70,39 @@ Says bytes old new WriteFault = (steps : List Step) × IsInput bytes steps × Ap
 Says bytes old new OutOfMemory = new ≡ old
 Says bytes old new Usage = ⊥
 Says bytes old new ReadFault = ⊥
+
+-- the call answered the whole input: no word, no fault and no want of memory cut it off
+abbrev pub IsUncut : ReplayStatus → Type 0
+IsUncut Done = Unit {0}
+IsUncut (NotYet line) = Unit {0}
+IsUncut Usage = ⊥
+IsUncut ReadFault = ⊥
+IsUncut WriteFault = ⊥
+IsUncut OutOfMemory = ⊥
+
+-- a status with which nothing is written
+abbrev pub IsSilent : ReplayStatus → Type 0
+IsSilent Done = ⊥
+IsSilent WriteFault = ⊥
+IsSilent (NotYet line) = Unit {0}
+IsSilent Usage = Unit {0}
+IsSilent ReadFault = Unit {0}
+IsSilent OutOfMemory = Unit {0}
+
+-- a status that judges a line of the input
+abbrev pub IsJudged : ReplayStatus → Type 0
+IsJudged Done = Unit {0}
+IsJudged WriteFault = Unit {0}
+IsJudged (NotYet line) = 0 < line
+IsJudged Usage = ⊥
+IsJudged ReadFault = ⊥
+IsJudged OutOfMemory = ⊥
+
+-- of these bytes so many were taken
+abbrev pub HasTaken : ℕ → List ℕ → Option (List ℕ) → Type 0
+HasTaken n bytes None = ⊥
+HasTaken n bytes (Some left) = length bytes ≡ n + length left
+
+-- the bytes are an input that is answered, and not too long
+abbrev pub IsWhole : List ℕ → Type 0
+IsWhole bytes = (length bytes ≤ 65536) × ((steps : List Step) × IsInput bytes steps)

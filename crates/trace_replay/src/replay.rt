@@ -4,7 +4,9 @@ ghost use Rattle.std.specs.Prelude.{◌≡◌, ℕ, ◌≤◌, ◌<◌, ◌↔�
 ghost use Rattle.sched_base.specs.declared.steps.Step.{Step};
 ghost use Rattle.ports.specs.Devices.{Rose};
 ghost use Rattle.flat_policy.specs.FirstGame.{empty};
-ghost use Rattle.trace_replay.specs.Replay.{lines_of, written, AreAnswered, IsInput, output_of, IsOutside, IsFirstOutside, Says};
+ghost use Rattle.trace_replay.specs.Replay.{lines_of, written, AreAnswered, IsInput, output_of, IsOutside, IsFirstOutside, Says, IsUncut, IsSilent, IsJudged, IsWhole, HasTaken};
+ghost use Rattle.trace_replay.specs.Outflow.{AppendsPart};
+ghost use Rattle.std.specs.Io.KnownBytes.{Appends, IsAtEnd};
 
 use crate::intake::{MOST, Taken, read_all};
 use crate::machine::Machine;
@@ -108,7 +110,30 @@ pub fn replay_main<S: Source, K: Sink>(
     words: &[String],
     source: &mut S,
     sink: &mut K,
-) -> ReplayStatus {
+) -> ReplayStatus
+    // Usage comes exactly where there is a word.
+    ensures usage { (result ≡ ReplayStatus.Usage) ↔ (0 < length words.now) }
+
+    // A fault comes only where the count of its device rose. One of the source comes before every other judgement.
+    ensures read_fault { result ≡ ReplayStatus.ReadFault → Rose (S.faults source.old) (S.faults source.new) }
+    ensures write_fault { result ≡ ReplayStatus.WriteFault → Rose (K.faults sink.old) (K.faults sink.new) }
+    ensures read_whole { IsJudged result → IsAtEnd (S.left source.new) }
+
+    // Line 0 exactly where one byte too many was taken, and else the first line that isn't answered.
+    ensures too_long { IfSome (S.left source.old) (λ bytes. (result ≡ ReplayStatus.NotYet 0) ↔ HasTaken 65537 bytes (S.left source.new)) }
+    ensures not_yet { IfSome (S.left source.old) (λ bytes. IsUncut result → (line : ℕ) → 0 < line →
+        ((result ≡ ReplayStatus.NotYet line) ↔ ((length bytes ≤ 65536) × IsFirstOutside bytes line))) }
+
+    // Done exactly where each line is answered, and then the sink took the output.
+    ensures done { IfSome (S.left source.old) (λ bytes. IsUncut result → ((result ≡ ReplayStatus.Done) ↔ IsWhole bytes)) }
+    ensures output { IfSome (S.left source.old) (λ bytes. result ≡ ReplayStatus.Done → (steps : List Step) → IsInput bytes steps →
+        Appends (K.taken sink.old) (K.taken sink.new) (output_of steps)) }
+
+    // Nothing else is written, and where the sink fails a part of the output.
+    ensures silent { IsSilent result → K.taken sink.new ≡ K.taken sink.old }
+    ensures part { IfSome (S.left source.old) (λ bytes. result ≡ ReplayStatus.WriteFault → (length bytes ≤ 65536) × ((steps : List Step) × IsInput bytes steps ×
+        AppendsPart (K.taken sink.old) (K.taken sink.new) (output_of steps))) }
+{
     if !words.is_empty() {
         return ReplayStatus::Usage;
     }
