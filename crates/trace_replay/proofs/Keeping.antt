@@ -1,5 +1,5 @@
 -- What entering and removing keep of a queue.
-use Rattle.std.proofs.Common.{◌≡◌, ℕ, ◌+◌, ◌<◌, ◌≤◌, zero, suc, refl, sym, ◌∙◌, ap, inl, inr, Bool, true, false, eqb, Some, List, [], ◌∷◌, ◌++◌, length, get_or, slice_get, remove, filter, arith}
+use Rattle.std.proofs.Common.{◌≡◌, ℕ, ◌+◌, ◌<◌, zero, suc, refl, sym, ◌∙◌, ap, inl, inr, Bool, true, false, eqb, Some, List, [], ◌∷◌, ◌++◌, length, get_or, slice_get, remove, filter, arith}
 use Rattle.std.proofs.lemmas.Bool.{cases_Bool}
 use Rattle.std.proofs.lemmas.Option.{slice_get_read}
 use Rattle.std.proofs.lemmas.Bool.Decides.{nat_tests}

@@ -1,7 +1,7 @@
+pub mod Decimals
+pub mod Digits
 pub mod Keeping
 pub mod Meets
-pub mod Numbers
-pub mod Numerals
 pub mod Picking
 pub mod Progress
 pub mod Runs

@@ -1,12 +1,12 @@
 -- What each way through a replay says of its status.
-use Rattle.std.proofs.Common.{◌≡◌, ◌≢◌, ℕ, ◌+◌, ◌≤◌, ◌<◌, ◌↔◌, inl, inr, refl, sym, ◌∙◌, ap, subst, IfSome, Option, None, Some, List, [], ◌∷◌, ◌++◌, length, arith, length-append}
+use Rattle.std.proofs.Common.{◌≡◌, ℕ, ◌≤◌, ◌<◌, ◌↔◌, refl, sym, ◌∙◌, ap, subst, IfSome, Option, None, Some, List, [], ◌++◌, length, arith}
 use Rattle.std.specs.Io.KnownBytes.{Appends, Consumes, IsAtEnd}
 use Rattle.std.proofs.lemmas.List.{append-nil}
 use Rattle.sched_base.specs.declared.steps.Step.{Step}
 use Rattle.trace_replay.specs.Outflow.{AppendsPart}
-use Rattle.trace_replay.specs.Replay.{output_of, IsInput, IsFirstOutside, Says, IsUncut, IsSilent, IsJudged, IsWhole, HasTaken}
+use Rattle.trace_replay.specs.Replay.{output_of, IsInput, IsFirstOutside, Says, IsUncut, IsWhole, HasTaken}
 use Rattle.trace_replay.specs.declared.status.ReplayStatus.{ReplayStatus}
-use Rattle.trace_replay.specs.declared.status.ReplayStatus.TheVariants.{Done, Usage, NotYet, ReadFault, WriteFault, OutOfMemory}
+use Rattle.trace_replay.specs.declared.status.ReplayStatus.TheVariants.{Done, NotYet, WriteFault}
 use Rattle.trace_replay.proofs.Unique.{input_once, not_both, outside_once, outside_positive}
 
 -- what is told of a status where the bytes to read were told

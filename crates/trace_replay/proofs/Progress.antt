@@ -1,5 +1,5 @@
 -- How far a replay of lines has come.
-use Rattle.std.proofs.Common.{◌≡◌, ◌≢◌, ℕ, ◌+◌, ◌≤◌, ◌<◌, refl, sym, ◌∙◌, ap, subst, IsSome, Option, None, Some, List, [], ◌∷◌, ◌++◌, length, append_assoc, arith, length-append, eqb, true, false}
+use Rattle.std.proofs.Common.{◌≡◌, ◌≢◌, ℕ, ◌+◌, ◌≤◌, refl, sym, ◌∙◌, ap, IsSome, Option, None, Some, List, [], ◌∷◌, ◌++◌, length, append_assoc, arith, length-append, eqb, true, false}
 use Rattle.std.specs.List.{AllByRecursion}
 use Rattle.std.specs.Option.{option_and_then}
 use Rattle.std.proofs.lemmas.List.{append-nil, nil_from_length}
@@ -7,9 +7,9 @@ use Rattle.std.proofs.lemmas.Bool.{eqb-true}
 use Rattle.std.proofs.lemmas.Bool.Decides.{nat_tests}
 use Rattle.sched_base.specs.declared.steps.Answer.{Answer}
 use Rattle.sched_base.specs.declared.steps.Step.{Step}
-use Rattle.flat_policy.specs.FirstGame.{Game, empty, effective, outcome}
+use Rattle.flat_policy.specs.FirstGame.{Game, empty, outcome}
 use Rattle.trace_replay.specs.Texts.{IsInForm, step_line, output_line}
-use Rattle.trace_replay.specs.Replay.{lines_of, after, timed, written, AreAnswered, StopsAfter, IsOutside}
+use Rattle.trace_replay.specs.Replay.{lines_of, after, timed, written, AreAnswered, IsOutside}
 use Rattle.trace_replay.proofs.Spelling.{one_step}
 use Rattle.trace_replay.proofs.Runs.{after_more, lines_more, form_more, form_last, written_more, is_some_of, shorter}
 

@@ -1,16 +1,13 @@
 -- Runs of steps: one more step at the end, and that an input is read in one way alone.
-use Rattle.std.proofs.Common.{◌≡◌, ◌≢◌, ℕ, ◌+◌, ◌≤◌, ◌<◌, ◌⊎◌, inl, inr, refl, sym, ◌∙◌, ap, subst, IsSome, Option, None, Some, List, [], ◌∷◌, ◌++◌, length, append_assoc, arith, length-append, eqb, true, false}
-use Rattle.std.proofs.lemmas.List.{append-nil, nil_from_length}
-use Rattle.std.proofs.lemmas.Bool.{eqb-true}
-use Rattle.std.proofs.lemmas.Bool.Decides.{nat_tests}
-use Rattle.std.specs.List.{flat_map, AllByRecursion}
+use Rattle.std.proofs.Common.{◌≡◌, ℕ, ◌<◌, refl, sym, ◌∙◌, ap, IsSome, Option, None, Some, List, [], ◌∷◌, ◌++◌, length, append_assoc, arith, length-append}
+use Rattle.std.proofs.lemmas.List.{append-nil}
+use Rattle.std.specs.List.{AllByRecursion}
 use Rattle.std.specs.Option.{option_and_then, option_map_or}
 use Rattle.sched_base.specs.declared.steps.Answer.{Answer}
 use Rattle.sched_base.specs.declared.steps.Step.{Step}
-use Rattle.flat_policy.specs.FirstGame.{Game, empty, effective, outcome}
+use Rattle.flat_policy.specs.FirstGame.{Game, outcome}
 use Rattle.trace_replay.specs.Texts.{IsInForm, step_text, step_line, output_line}
-use Rattle.trace_replay.specs.Replay.{lines_of, after, timed, written, AreAnswered, StopsAfter, IsInput, IsOutside}
-use Rattle.trace_replay.proofs.Spelling.{one_step}
+use Rattle.trace_replay.specs.Replay.{lines_of, after, timed, written}
 
 -- the value of a step that is there
 pub and_then_some : {A B : Type 0} (f : A → Option B) (o : Option A) (y : B) → option_and_then f o ≡ Some y → (x : A) × (o ≡ Some x) × (f x ≡ Some y)

@@ -1,5 +1,5 @@
 -- A line that is read is the line of the step, and the line of a step is read as that step.
-use Rattle.std.proofs.Common.{◌≡◌, ◌≢◌, ℕ, suc, ◌+◌, ◌-◌, lit<, Bor, IfSome, IfNone, ◌<◌, ◌≤◌, ◌^◌, ◌⊎◌, inl, inr, refl, sym, ◌∙◌, ap, subst, Bool, true, false, ◌&&◌, cond, eqb, nat_eq, List, [], ◌∷◌, ◌++◌, Option, None, Some, length, take, drop, append_assoc, arith, codes}
+use Rattle.std.proofs.Common.{◌≡◌, ◌≢◌, ℕ, ◌-◌, lit<, Bor, IfSome, IfNone, ◌<◌, ◌≤◌, ◌^◌, ◌⊎◌, inl, inr, refl, sym, ◌∙◌, ap, subst, true, false, eqb, nat_eq, List, [], ◌∷◌, ◌++◌, Option, None, Some, length, take, drop, append_assoc, arith, codes}
 use Rattle.std.specs.Option.{option_map}
 use Rattle.std.specs.Fmt.{decimal}
 use Rattle.std.specs.Cmp.Lexicographic.{pointwise}
@@ -7,14 +7,13 @@ use Rattle.std.proofs.lemmas.Bool.{cases_Bool}
 use Rattle.std.proofs.lemmas.Bool.Decides.{nat_tests}
 use Rattle.std.proofs.lemmas.List.{take-append-drop}
 use Rattle.std.proofs.Math.Seq.{take-append_seam, drop-append_seam}
-use Rattle.sched_base.specs.declared.buckets.Bucket.{Bucket}
 use Rattle.sched_base.specs.declared.buckets.Bucket.TheVariants.{Fg}
 use Rattle.sched_base.specs.declared.steps.Act.{Act}
 use Rattle.sched_base.specs.declared.steps.Act.TheVariants.{Make, Enter, Select}
 use Rattle.sched_base.specs.declared.steps.Step.{Step}
-use Rattle.trace_replay.specs.Texts.{IsActInForm, IsInForm, act_text, step_text, step_line}
-use Rattle.trace_replay.specs.Reading.{◌>>=◌, or_else, digit_count, numeral_at, word_at, make_at, enter_at, select_at, act_at, step_at}
-use Rattle.trace_replay.proofs.Numbers.{bind_some, some_is, numeral_takes, numeral_again}
+use Rattle.trace_replay.specs.Texts.{IsActInForm, IsInForm, act_text, step_line}
+use Rattle.trace_replay.specs.Reading.{◌>>=◌, or_else, numeral_at, word_at, make_at, enter_at, select_at, act_at, step_at}
+use Rattle.trace_replay.proofs.Decimals.{bind_some, some_is, numeral_takes, numeral_again}
 
 -- lists whose places tie are one
 pointwise_same : (xs ys : List ℕ) → pointwise nat_eq xs ys ≡ true → xs ≡ ys

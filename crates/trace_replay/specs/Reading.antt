@@ -1,8 +1,7 @@
 -- Readers as functions on lists: what was read from the front, and the rest. That they read just the texts is
 -- proved; nothing rests on them.
-use Rattle.std.specs.Prelude.{◌≡◌, ℕ, ◌+◌, ◌-◌, ◌*◌, ◌<◌, ◌^◌, Bool, true, false, not, ◌&&◌, ◌==◌, nat_eq, nat_le, Option, None, Some, List, [], ◌∷◌, ◌++◌, codes, take, drop, length, if◌then◌else◌}
+use Rattle.std.specs.Prelude.{ℕ, ◌+◌, ◌-◌, ◌*◌, ◌^◌, false, ◌==◌, nat_eq, nat_le, Option, None, Some, List, [], ◌∷◌, codes, take, drop, length, if◌then◌else◌}
 use Rattle.std.specs.Cmp.Lexicographic.{pointwise}
-use Rattle.std.specs.Option.{option_and_then}
 use Rattle.std.specs.Char.{is_ascii_digit}
 use Rattle.sched_base.specs.declared.buckets.Bucket.TheVariants.{Fg}
 use Rattle.sched_base.specs.declared.steps.Act.{Act}

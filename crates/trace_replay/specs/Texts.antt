@@ -1,7 +1,6 @@
 -- The texts of the lines: steps, answers, and whole inputs.
-use Rattle.std.specs.Prelude.{◌≡◌, ℕ, ◌<◌, ◌^◌, Bool, false, Option, None, Some, List, [], ◌∷◌, ◌++◌, codes}
+use Rattle.std.specs.Prelude.{◌≡◌, ℕ, ◌<◌, ◌^◌, false, None, List, [], ◌∷◌, ◌++◌, codes}
 use Rattle.std.specs.Fmt.{decimal}
-use Rattle.sched_base.specs.declared.buckets.Bucket.{Bucket}
 use Rattle.sched_base.specs.declared.buckets.Bucket.TheVariants.{Fg}
 use Rattle.sched_base.specs.declared.steps.Act.{Act}
 use Rattle.sched_base.specs.declared.steps.Act.TheVariants.{Make, Enter, Select}

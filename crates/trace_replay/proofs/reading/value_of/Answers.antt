@@ -1,5 +1,5 @@
 use Rattle.std.proofs.Common.{arith}
-use Rattle.trace_replay.proofs.Numerals.{past_most}
+use Rattle.trace_replay.proofs.Digits.{past_most}
 use Rattle.trace_replay.proofs.reading.value_of.Goals as goal
 
 pub returns-then-value-most-clause-value : goal.returns-then-value-most-clause-value

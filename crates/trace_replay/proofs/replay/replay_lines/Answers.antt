@@ -1,7 +1,6 @@
 use Rattle.std.proofs.Common.{◌≡◌, ℕ, sym, ◌∙◌, subst, arith, [], ◌∷◌, ◌++◌}
 use Rattle.trace_replay.specs.Replay.{IsOutside}
 use Rattle.trace_replay.proofs.Progress.{AllRead, progress_start, progress_more, outside_unread, outside_refused, all_read}
-use Rattle.trace_replay.proofs.Runs.{shorter}
 use Rattle.trace_replay.proofs.replay.replay_lines.Goals as goal
 
 pub lines-init : goal.lines-init

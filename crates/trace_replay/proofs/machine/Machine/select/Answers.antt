@@ -1,4 +1,4 @@
-use Rattle.std.proofs.Common.{◌≡◌, ◌+◌, sym, ◌∙◌, ap, arith, refl, false, is_some, length}
+use Rattle.std.proofs.Common.{◌≡◌, sym, ◌∙◌, ap, arith, refl, false, is_some}
 use Rattle.trace_replay.specs.Kept.{held}
 use Rattle.trace_replay.proofs.Keeping.{TakesPick, takes_pick, rising_fewer, below_fewer}
 use Rattle.trace_replay.proofs.machine.Machine.select.Goals as goal
