@@ -4,7 +4,7 @@ use Rattle.std.specs.Io.KnownBytes.{Appends, Consumes}
 
 -- what two writes append is what the first appends and then what the second does
 pub Appends-append : (old mid new : Option (List ℕ)) (a b : List ℕ) →
-  Appends old mid a → Appends mid new b → Appends old new (a ++ b)
+    Appends old mid a → Appends mid new b → Appends old new (a ++ b)
 Appends-append None mid new a b first second = tt
 Appends-append (Some xs) None new a b first second = absurd first
 Appends-append (Some xs) (Some ys) None a b first second = absurd second
@@ -13,7 +13,7 @@ Appends-append (Some xs) (Some ys) (Some zs) a b first second =
 
 -- what two reads consume is what the first consumes and then what the second does
 pub Consumes-append : (old mid new : Option (List ℕ)) (a b : List ℕ) →
-  Consumes old mid a → Consumes mid new b → Consumes old new (a ++ b)
+    Consumes old mid a → Consumes mid new b → Consumes old new (a ++ b)
 Consumes-append None mid new a b first second = tt
 Consumes-append (Some xs) None new a b first second = absurd first
 Consumes-append (Some xs) (Some ys) None a b first second = absurd second

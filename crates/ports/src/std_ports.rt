@@ -14,8 +14,7 @@ pub struct StdSource<R: Read> {
 impl<R: Read> StdSource<R> {
     /// The reader as a source without faults so far.
     pub fn new(inner: R) -> StdSource<R>
-        ensures inner { result.inner ≡ inner }
-        ensures faults { result.faults ≡ 0 }
+        ensures { ⟦<StdSource<R> as Source>⟧.faults result ≡ 0 }
     {
         StdSource { inner, faults: 0 }
     }
@@ -47,8 +46,7 @@ pub struct StdSink<W: Write> {
 impl<W: Write> StdSink<W> {
     /// The writer as a sink without faults so far.
     pub fn new(inner: W) -> StdSink<W>
-        ensures inner { result.inner ≡ inner }
-        ensures faults { result.faults ≡ 0 }
+        ensures { ⟦<StdSink<W> as Sink>⟧.faults result ≡ 0 }
     {
         StdSink { inner, faults: 0 }
     }
@@ -67,5 +65,91 @@ impl<W: Write> Sink for StdSink<W> {
                 Err(Failed)
             }
         }
+    }
+}
+
+#[cfg(test)]
+mod tests {
+    use super::*;
+    use std::io;
+    use std::test::Fail;
+
+    /// A reader that fails once, before its second byte.
+    #[derive(Drop)]
+    struct Shaky(u8);
+
+    impl Read for Shaky {
+        fn read(&mut self, buf: &mut [u8]) -> io::Result<usize> {
+            self.0 = self.0.saturating_add(1);
+            if self.0 == 2 {
+                return Err(io::Error::from(io::ErrorKind::TimedOut));
+            }
+            if self.0 > 3 || buf.is_empty() {
+                return Ok(0);
+            }
+            buf[0] = self.0;
+            Ok(1)
+        }
+    }
+
+    /// A writer whose second write fails, and whose third takes nothing.
+    #[derive(Drop)]
+    struct Picky {
+        calls: u8,
+        bytes: Vec<u8>,
+    }
+
+    impl Write for Picky {
+        fn write(&mut self, buf: &[u8]) -> io::Result<usize> {
+            self.calls = self.calls.saturating_add(1);
+            if self.calls == 2 {
+                return Err(io::Error::from(io::ErrorKind::TimedOut));
+            }
+            if self.calls == 3 || buf.is_empty() {
+                return Ok(0);
+            }
+            self.bytes.push(buf[0])?;
+            Ok(1)
+        }
+
+        fn flush(&mut self) -> io::Result<()> {
+            Ok(())
+        }
+    }
+
+    #[test]
+    fn a_reader_that_fails_once_raises_the_count_to_one(rt: HostRuntime) {
+        let mut source = StdSource::new(Shaky(0));
+        let mut piece = [0; 4];
+        for (first, count, faults) in [
+            (1, Ok(1), 0),
+            (1, Err(Failed), 1),
+            (3, Ok(1), 1),
+            (3, Ok(0), 1),
+        ] {
+            assert_eq!(rt; source.take(&mut piece), count);
+            assert_eq!(rt; source.faults, faults);
+            assert_eq!(rt; piece[0], first);
+        }
+    }
+
+    #[test]
+    fn a_writer_that_fails_once_raises_the_count_to_one(rt: HostRuntime) {
+        let inner = Picky {
+            calls: 0,
+            bytes: Vec::new(rt.alloc()),
+        };
+        let mut sink = StdSink::new(inner);
+        let text = b"ab".as_slice();
+        for (from, count, faults) in [
+            (0, Ok(1), 0),
+            (1, Err(Failed), 1),
+            (1, Err(Failed), 2),
+            (1, Ok(1), 2),
+        ] {
+            assert_eq!(rt; sink.put(&text[from..]), count);
+            assert_eq!(rt; sink.faults, faults);
+        }
+        assert_eq!(rt; sink.inner.bytes.as_slice(), text);
     }
 }
