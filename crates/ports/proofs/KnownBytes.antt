@@ -1,5 +1,5 @@
 -- Two writes, or two reads, one after another.
-use Rattle.std.proofs.Common.{◌≡◌, ℕ, List, ◌++◌, Option, None, Some, ap, ◌∙◌, sym, append_assoc}
+use Rattle.std.proofs.Common.{ℕ, List, ◌++◌, Option, None, Some, ap, ◌∙◌, sym, append_assoc}
 use Rattle.std.specs.Io.KnownBytes.{Appends, Consumes}
 
 -- what two writes append is what the first appends and then what the second does

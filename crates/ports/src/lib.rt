@@ -6,12 +6,17 @@ pub mod byte_source;
 pub mod count_sink;
 pub mod devices;
 mod handing;
+mod judging;
+pub mod line_feed;
+mod seeking;
 pub mod std_ports;
 pub mod sure_source;
+mod window;
 
 pub use byte_sink::ByteSink;
 pub use byte_source::ByteSource;
 pub use count_sink::CountSink;
 pub use devices::{Failed, Sink, Source};
+pub use line_feed::{Fed, INPUT_MOST, LINE_MOST, LineFeed};
 pub use std_ports::{StdSink, StdSource};
 pub use sure_source::SureSource;
