@@ -1,0 +1,3 @@
+pub mod Keeping
+pub mod Numerals
+pub mod Picking

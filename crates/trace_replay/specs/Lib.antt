@@ -1,0 +1,5 @@
+-- What contracts cite.
+pub mod Kept
+pub mod Outflow
+pub mod Reading
+pub mod Texts
