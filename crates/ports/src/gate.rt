@@ -23,3 +23,19 @@ pub struct NoGate;
 impl Gate for NoGate {
     fn pass(&self, _actor: u8, _point: Point) {}
 }
+
+#[cfg(test)]
+mod tests {
+    use super::*;
+
+    #[test]
+    fn a_gate_that_does_nothing_lets_every_point_pass() {
+        for point in [
+            Point::BeforeStep,
+            Point::Holding(Spot::Cluster(1)),
+            Point::Holding(Spot::Yard),
+        ] {
+            NoGate.pass(0, point);
+        }
+    }
+}

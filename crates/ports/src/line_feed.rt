@@ -154,3 +154,96 @@ impl LineFeed {
         self.passed + (self.window.len() - self.given) as u64
     }
 }
+
+#[cfg(test)]
+mod tests {
+    use super::*;
+    use crate::{ByteSource, SureSource};
+    use std::process::Abort;
+    use std::test::Fail;
+
+    #[test]
+    fn the_lines_are_the_same_however_the_bytes_are_cut(rt: HostRuntime) -> Result<(), Fail> {
+        let cases: [(&[u8], u32, &[&[u8]], Fed); 8] = [
+            (b"a\nb", 256, &[b"a"], Fed::Unfinished),
+            (b"", 256, &[], Fed::End),
+            (b"\n\nlast\n", 256, &[b"", b"", b"last"], Fed::End),
+            (b"four\nfive5\n", 4, &[b"four"], Fed::Long),
+            (b"four\nfive", 4, &[b"four"], Fed::Unfinished),
+            (b"\nx", 0, &[b""], Fed::Long),
+            (b"\r\n \n", 1, &[b"\r", b" "], Fed::End),
+            (
+                b"12345678\n12345678\n1234567\n",
+                8,
+                &[b"12345678", b"12345678", b"1234567"],
+                Fed::End,
+            ),
+        ];
+        for (text, limit, lines, last) in cases {
+            for piece in [1, 2, 7, 4096] {
+                gives_lines(&rt, rt.alloc(), text, piece, limit, lines, last)?;
+            }
+        }
+        Ok(())
+    }
+
+    fn gives_lines(
+        rt: &impl Abort,
+        alloc: Global,
+        text: &[u8],
+        piece: usize,
+        limit: u32,
+        lines: &[&[u8]],
+        last: Fed,
+    ) -> Result<(), AllocError> {
+        assert!(rt; piece >= 1);
+        assert!(rt; limit <= LINE_MOST);
+        let bytes = Vec::from_slice(alloc, text)?;
+        let mut source = ByteSource::new(bytes, piece, Vec::new(alloc));
+        let mut feed = LineFeed::new(alloc)?;
+        for line in lines {
+            assert!(rt; !feed.done());
+            assert_eq!(rt; feed.next(&mut source, limit), Fed::Line, "piece {piece}");
+            assert_eq!(rt; feed.line(), *line, "piece {piece}");
+        }
+        assert!(rt; !feed.done());
+        assert_eq!(rt; feed.next(&mut source, limit), last, "piece {piece}");
+        assert!(rt; feed.done());
+        assert!(rt; feed.line().is_empty());
+        assert!(rt; feed.taken() <= text.len() as u64);
+        Ok(())
+    }
+
+    #[test]
+    fn a_fault_is_answered_after_the_whole_lines(rt: HostRuntime) -> Result<(), Fail> {
+        let bytes = Vec::from_slice(rt.alloc(), b"one\ntwo\nthree")?;
+        let fails = Vec::from_slice(rt.alloc(), &[2])?;
+        let mut source = ByteSource::new(bytes, 5, fails);
+        let mut feed = LineFeed::new(rt.alloc())?;
+        for (answer, line, taken) in [
+            (Fed::Line, b"one".as_slice(), 5),
+            (Fed::Line, b"two", 10),
+            (Fed::Fault, b"", 10),
+        ] {
+            assert!(rt; !feed.done());
+            assert_eq!(rt; feed.next(&mut source, 256), answer);
+            assert_eq!(rt; feed.line(), line);
+            assert_eq!(rt; feed.taken(), taken);
+        }
+        Ok(())
+    }
+
+    #[test]
+    fn the_longest_line_and_a_piece_fit(rt: HostRuntime) -> Result<(), Fail> {
+        let mut bytes = vec![in rt.alloc(); b'x'; 65_536]?;
+        bytes.push(b'\n')?;
+        bytes.extend_from_slice(&[b'y'; 65_537])?;
+        let mut source = SureSource::new(bytes);
+        let mut feed = LineFeed::new(rt.alloc())?;
+        assert_eq!(rt; feed.next(&mut source, LINE_MOST), Fed::Line);
+        assert_eq!(rt; feed.line().len(), 65_536);
+        assert!(rt; !feed.done());
+        assert_eq!(rt; feed.next(&mut source, LINE_MOST), Fed::Long);
+        Ok(())
+    }
+}
