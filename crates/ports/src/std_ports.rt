@@ -1,5 +1,9 @@
 //! The edge to std's readers and writers. What they give and take is not told.
-ghost use Rattle.std.specs.Prelude.{◌≡◌, ℕ, None};
+ghost use Rattle.std.specs.Prelude.{◌≡◌, ℕ, ◌<◌, None, length, OnOk, OnErr};
+ghost use Rattle.std.specs.Io.{ReadsAtMost};
+ghost use Rattle.std.specs.Io.KnownBytes.{ReadConsumes, WriteAppends};
+ghost use Rattle.ports.specs.Devices.{HasCause, EndsRightly, TakesSome};
+ghost use Rattle.ports.specs.Pieces.{one_more};
 
 use super::devices::{Failed, Sink, Source};
 use std::io::{Read, Write};
@@ -25,7 +29,19 @@ impl<R: Read> Source for StdSource<R> {
 
     ghost faults = { λ s. s.faults };
 
-    fn take(&mut self, into: &mut [u8]) -> Result<usize, Failed> {
+    fn take(&mut self, into: &mut [u8]) -> Result<usize, Failed>
+        requires { 0 < length into.old }
+
+        // What the reader gives comes through, where it is a reader whose bytes are known.
+        ensures inner { ReadConsumes (R.remaining self.old.inner) (R.remaining self.new.inner) result into.new }
+        ensures counted { OnErr result (self.new.faults ≡ one_more self.old.faults) }
+        ensures ok { OnOk result (self.new.faults ≡ self.old.faults) }
+
+        ensures bound { ReadsAtMost result into.new }
+        ensures bytes { ReadConsumes None None result into.new }
+        ensures end { EndsRightly None result }
+        ensures cause { HasCause self.old.faults self.new.faults result }
+    {
         match self.inner.read(into) {
             Ok(count) => Ok(count),
             Err(_) => {
@@ -57,7 +73,18 @@ impl<W: Write> Sink for StdSink<W> {
 
     ghost faults = { λ s. s.faults };
 
-    fn put(&mut self, from: &[u8]) -> Result<usize, Failed> {
+    fn put(&mut self, from: &[u8]) -> Result<usize, Failed>
+        requires { 0 < length from.now }
+
+        // What is taken goes to the writer, where it is a writer whose bytes are known.
+        ensures inner { WriteAppends (W.contents self.old.inner) (W.contents self.new.inner) result from.now }
+        ensures counted { OnErr result (self.new.faults ≡ one_more self.old.faults) }
+        ensures ok { OnOk result (self.new.faults ≡ self.old.faults) }
+
+        ensures bound { TakesSome result (length from.now) }
+        ensures bytes { WriteAppends None None result from.now }
+        ensures cause { HasCause self.old.faults self.new.faults result }
+    {
         match self.inner.write(from) {
             Ok(count) if count > 0 => Ok(count),
             _ => {
