@@ -101,3 +101,29 @@ impl Sink for ByteSink {
         Ok(count)
     }
 }
+
+#[cfg(test)]
+mod tests {
+    use super::*;
+    use std::test::Fail;
+
+    #[test]
+    fn a_sink_takes_pieces_until_its_room_ends(rt: HostRuntime) -> Result<(), Fail> {
+        let fails = Vec::from_slice(rt.alloc(), &[1])?;
+        let mut sink = ByteSink::new(rt.alloc(), 5, 3, fails)?;
+        let text = b"abcdefg".as_slice();
+        let calls = [
+            (0, Ok(3), 0),
+            (3, Err(Failed), 1),
+            (3, Ok(2), 1),
+            (5, Err(Failed), 2),
+            (5, Err(Failed), 3),
+        ];
+        for (from, answer, faults) in calls {
+            assert_eq!(rt; sink.put(&text[from..]), answer);
+            assert_eq!(rt; sink.faults, faults);
+        }
+        assert_eq!(rt; sink.bytes(), b"abcde".as_slice());
+        Ok(())
+    }
+}

@@ -86,3 +86,44 @@ impl Source for ByteSource {
         Ok(count)
     }
 }
+
+#[cfg(test)]
+mod tests {
+    use super::*;
+    use std::test::Fail;
+
+    #[test]
+    fn a_source_gives_its_bytes_in_pieces_and_fails_where_told(
+        rt: HostRuntime,
+    ) -> Result<(), Fail> {
+        let text = b"ten bytes.".as_slice();
+        let cases: [(usize, &[u64], u64); 4] = [
+            (1, &[], 0),
+            (7, &[], 0),
+            (7, &[0], 1),
+            (3, &[9, 1, 4], 2),
+        ];
+        for (piece, fails, faults) in cases {
+            let bytes = Vec::from_slice(rt.alloc(), text)?;
+            let fails = Vec::from_slice(rt.alloc(), fails)?;
+            let mut source = ByteSource::new(bytes, piece, fails);
+            let mut given = Vec::new(rt.alloc());
+            let mut into = [0; 16];
+            let mut failed: u64 = 0;
+            for call in 0..16 {
+                match source.take(&mut into) {
+                    Ok(0) => break,
+                    Ok(count) => {
+                        assert!(rt; count <= piece, "piece {piece}, call {call}");
+                        given.extend_from_slice(&into[..count])?;
+                    }
+                    Err(Failed) => failed = failed.saturating_add(1),
+                }
+            }
+            assert_eq!(rt; given.as_slice(), text, "piece {piece}");
+            assert_eq!(rt; failed, faults, "piece {piece}");
+            assert_eq!(rt; source.faults, faults, "piece {piece}");
+        }
+        Ok(())
+    }
+}

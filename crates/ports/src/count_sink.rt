@@ -51,3 +51,16 @@ impl Sink for CountSink {
         Ok(from.len())
     }
 }
+
+#[cfg(test)]
+mod tests {
+    use super::*;
+
+    #[test]
+    fn a_sink_that_counts_takes_pieces_whole(rt: HostRuntime) {
+        let mut sink = CountSink::new();
+        assert_eq!(rt; sink.put(b"abc"), Ok(3));
+        assert_eq!(rt; sink.put(b"defgh"), Ok(5));
+        assert_eq!(rt; sink.taken(), 8);
+    }
+}
