@@ -1,5 +1,5 @@
 -- The machine of one cluster and one actor, for threads that used nothing.
-use Rattle.std.specs.Prelude.{ℕ, ◌+◌, Bool, true, false, nat_lt, max, Option, None, Some, List, [], ◌∷◌, ◌++◌, length, if◌then◌else◌, is_some, ◌==◌}
+use Rattle.std.specs.Prelude.{ℕ, ◌+◌, Bool, false, nat_lt, max, Option, None, Some, List, [], ◌∷◌, ◌++◌, length, if◌then◌else◌, is_some, ◌==◌}
 use Rattle.std.specs.List.{list_any}
 use Rattle.sched_base.specs.Facts.{fresh, settled}
 use Rattle.sched_base.specs.declared.facts.Facts.{Facts}
