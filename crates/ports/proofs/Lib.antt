@@ -1,0 +1,5 @@
+-- Lemmas of this crate.
+pub mod Lists
+pub mod KnownBytes
+pub mod Newlines
+pub mod Windows

@@ -1,0 +1,109 @@
+//! A thread, which is moved and never copied.
+
+ghost use Rattle.std.specs.Prelude.{◌≡◌, ◌<◌, ◌≤◌, ◌^◌};
+ghost use Rattle.sched_base.specs.Facts.{fresh, charged, rested, settled};
+
+use crate::buckets::Bucket;
+use crate::facts::Facts;
+use std::marker::Model;
+
+/// A thread. Contracts see its facts. It has no `Drop` and no `Clone`, so code that loses or
+/// doubles one isn't compiled.
+pub struct Thread {
+    facts: Facts,
+}
+
+impl Model for Thread {
+    ghost use Rattle.std.specs.Prelude.{◌≤◌};
+    ghost use Rattle.sched_base.specs.declared.facts.Facts.{Facts};
+
+    ghost Value = { Facts };
+
+    ghost view = { λ thread. thread.facts };
+
+    ghost invariant = { λ thread. thread.facts.base ≤ 127 };
+}
+
+impl Thread {
+    /// A fresh thread, made at the moment `now` (microseconds, below 2^40). Usage, pending spans
+    /// and work are 0.
+    pub fn new(
+        name: u32,
+        group: u8,
+        bucket: Bucket,
+        base: u8,
+        bound: Option<u8>,
+        prefer: u8,
+        now: u64,
+    ) -> Thread
+        requires base { base ≤ 127 }
+        requires now { now < 2 ^ 40 }
+        ensures { result ≡ fresh name group bucket base bound prefer now }
+    {
+        Thread {
+            facts: Facts {
+                name,
+                group,
+                bucket,
+                base,
+                bound,
+                prefer,
+                usage: 0,
+                seen: now,
+                pending_ran: 0,
+                pending_blocked: 0,
+                work: 0,
+            },
+        }
+    }
+
+    /// The facts of the thread, whose base is at most 127.
+    pub fn facts(&self) -> Facts
+        ensures facts { result ≡ self.now }
+        ensures base { result.base ≤ 127 }
+    {
+        self.facts
+    }
+
+    /// Charges `us` microseconds of running at `rate` thousandths of a unit of work for each.
+    /// Usage and the pending run span grow by `us`, and the work by `us * rate / 1000`, rounded
+    /// down. Each stays at the greatest value of its type where the sum exceeds it.
+    pub fn charge(&mut self, us: u32, rate: u32)
+        requires { rate ≤ 1000 }
+        ensures { self.new ≡ charged us rate self.old }
+    {
+        let done = us as u64 * rate as u64 / 1000;
+        self.facts.usage = self.facts.usage.saturating_add(us);
+        self.facts.pending_ran = self.facts.pending_ran.saturating_add(us);
+        self.facts.work = self.facts.work.saturating_add(done);
+    }
+
+    /// Adds a blocked span, in microseconds, to the pending blocked span, which stays at the
+    /// greatest value of its type where the sum exceeds it.
+    pub fn rest(&mut self, span: u64)
+        ensures { self.new ≡ rested span self.old }
+    {
+        let rested = span.saturating_add(self.facts.pending_blocked as u64);
+        self.facts.pending_blocked = rested.min(u32::MAX as u64) as u32;
+    }
+
+    /// Sets the usage and the moment up to which it has decayed (microseconds), and makes both
+    /// pending spans 0.
+    pub fn settle(&mut self, usage: u32, seen: u64)
+        ensures { self.new ≡ settled usage seen self.old }
+    {
+        self.facts.usage = usage;
+        self.facts.seen = seen;
+        self.facts.pending_ran = 0;
+        self.facts.pending_blocked = 0;
+    }
+
+    /// Ends the thread: what it leaves is its facts. This is the one way to let a thread go.
+    pub fn into_facts(self) -> Facts
+        ensures facts { result ≡ self }
+        ensures base { result.base ≤ 127 }
+    {
+        let Thread { facts } = self;
+        facts
+    }
+}
