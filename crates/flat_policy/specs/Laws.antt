@@ -1,1 +1,3 @@
 -- Laws that show that the definitions say what is meant, as statements.
+pub mod Choice
+pub mod Steps
