@@ -1,3 +1,15 @@
 pub mod Members
 pub mod Choice
 pub mod Windows
+pub mod Lexical
+pub mod Entries
+pub mod Precedes
+pub mod Buckets
+pub mod Units
+pub mod InLane
+pub mod Greatest
+pub mod Chosen
+pub mod ChosenLane
+pub mod Picks
+pub mod PickIsOne
+pub mod KeptLanes

@@ -1,3 +1,4 @@
 -- Laws that show that the definitions say what is meant, as statements.
 pub mod Choice
 pub mod Steps
+pub mod Picks

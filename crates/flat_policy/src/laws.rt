@@ -1,6 +1,7 @@
 //! Laws that show that the definitions say what is meant. Each is the contract of a function that does nothing.
 
 ghost use Rattle.flat_policy.specs.Laws.Choice.{ChoiceIsOne, ChoiceGoesByMembers};
+ghost use Rattle.flat_policy.specs.Laws.Picks.{PrecedesOrders, GoesBeforeOrders, ChoosesAFilledLane, PickIsOne};
 ghost use Rattle.flat_policy.specs.Laws.Steps.{ExpiresOnce, RefusalsChangeNothing};
 
 /// Windows that expire twice at one moment are as after once.
@@ -22,4 +23,25 @@ pub fn choice_is_one<T>()
 /// Under a strict order the choice goes by the members alone, and not by where they stand.
 pub fn choice_goes_by_members<T>()
     ensures { ChoiceGoesByMembers T }
+{}
+
+/// In a well-formed queue, which entry of a unit goes first is a strict order.
+pub fn precedes_orders()
+    ensures { PrecedesOrders }
+{}
+
+/// In a well-formed queue, which entry of a lane goes first in the cluster is a strict order.
+pub fn goes_before_orders()
+    ensures { GoesBeforeOrders }
+{}
+
+/// In a well-formed queue a lane is chosen exactly where there are entries, and it has some.
+pub fn chooses_a_filled_lane()
+    ensures { ChoosesAFilledLane }
+{}
+
+/// In a well-formed queue there is a pick exactly where there are entries: the only entry of the chosen lane
+/// that no entry goes before.
+pub fn pick_is_one()
+    ensures { PickIsOne }
 {}
