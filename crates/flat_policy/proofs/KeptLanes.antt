@@ -17,7 +17,7 @@ pub map_keeps_lanes : (f : LaneWindow → LaneWindow) → ((l : LaneWindow) → 
 map_keeps_lanes f h [] = refl
 map_keeps_lanes f h (l ∷ ls) = rw (h l, map_keeps_lanes f h ls) refl
 
-expired_keeps : (ts : List Times) (now : ℕ) (l : LaneWindow) → (expired_window ts now l).lane ≡ l.lane
+pub expired_keeps : (ts : List Times) (now : ℕ) (l : LaneWindow) → (expired_window ts now l).lane ≡ l.lane
 expired_keeps ts now l =
     let warped : LaneWindow = record l { warp = expired_warp now l.warp } in
     cond_both (window_over (times_for ts l.lane.bucket).quantum now l.starved) (renewed_deadline ts now warped) warped

@@ -13,3 +13,13 @@ pub mod ChosenLane
 pub mod Picks
 pub mod PickIsOne
 pub mod KeptLanes
+pub mod Parts
+pub mod Turns
+pub mod Wholes
+pub mod Enters
+pub mod Leaves
+pub mod Refreshes
+pub mod Refreshed
+pub mod After
+pub mod Kept
+pub mod StepsKeep

@@ -2,3 +2,4 @@
 pub mod Choice
 pub mod Steps
 pub mod Picks
+pub mod Kept

@@ -1,6 +1,7 @@
 //! Laws that show that the definitions say what is meant. Each is the contract of a function that does nothing.
 
 ghost use Rattle.flat_policy.specs.Laws.Choice.{ChoiceIsOne, ChoiceGoesByMembers};
+ghost use Rattle.flat_policy.specs.Laws.Kept.{EmptyIsWellFormed, StepsKeepWellFormed};
 ghost use Rattle.flat_policy.specs.Laws.Picks.{PrecedesOrders, GoesBeforeOrders, ChoosesAFilledLane, PickIsOne};
 ghost use Rattle.flat_policy.specs.Laws.Steps.{ExpiresOnce, RefusalsChangeNothing};
 
@@ -44,4 +45,15 @@ pub fn chooses_a_filled_lane()
 /// that no entry goes before.
 pub fn pick_is_one()
     ensures { PickIsOne }
+{}
+
+/// A queue without entries is well-formed.
+pub fn empty_is_well_formed()
+    ensures { EmptyIsWellFormed }
+{}
+
+/// Each step at a cluster keeps its queue well-formed: an enter where there is room for one more, and
+/// every other.
+pub fn steps_keep_well_formed()
+    ensures { StepsKeepWellFormed }
 {}
