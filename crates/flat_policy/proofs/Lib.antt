@@ -23,3 +23,5 @@ pub mod Refreshed
 pub mod After
 pub mod Kept
 pub mod StepsKeep
+pub mod Offers
+pub mod Aims

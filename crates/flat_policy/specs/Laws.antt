@@ -3,3 +3,5 @@ pub mod Choice
 pub mod Steps
 pub mod Picks
 pub mod Kept
+pub mod Offers
+pub mod Aims

@@ -2,6 +2,8 @@
 
 ghost use Rattle.flat_policy.specs.Laws.Choice.{ChoiceIsOne, ChoiceGoesByMembers};
 ghost use Rattle.flat_policy.specs.Laws.Kept.{EmptyIsWellFormed, StepsKeepWellFormed};
+ghost use Rattle.flat_policy.specs.Laws.Aims.{AimMayBeEntered};
+ghost use Rattle.flat_policy.specs.Laws.Offers.{OffersWhatMayBeTaken, OffersAreOne};
 ghost use Rattle.flat_policy.specs.Laws.Picks.{PrecedesOrders, GoesBeforeOrders, ChoosesAFilledLane, PickIsOne};
 ghost use Rattle.flat_policy.specs.Laws.Steps.{ExpiresOnce, RefusalsChangeNothing};
 
@@ -56,4 +58,21 @@ pub fn empty_is_well_formed()
 /// every other.
 pub fn steps_keep_well_formed()
     ensures { StepsKeepWellFormed }
+{}
+
+/// An aim is a cluster that the thread may enter. It is refused exactly where a cluster that it needs was not
+/// looked at, and then it names the lowest such cluster.
+pub fn aim_may_be_entered()
+    ensures { AimMayBeEntered }
+{}
+
+/// An offered entry stands in the queue, and the other cluster may take it; one is offered exactly where some
+/// entry may be taken.
+pub fn offers_what_may_be_taken()
+    ensures { OffersWhatMayBeTaken }
+{}
+
+/// Both choices of an offer go by a strict order, so that each has one answer.
+pub fn offers_are_one()
+    ensures { OffersAreOne }
 {}
