@@ -5,7 +5,7 @@ use Rattle.std.proofs.lemmas.Bool.{cases_Bool, cond-true, cond-false}
 use Rattle.std.proofs.lemmas.List.Elements.{Contains-push_cases}
 use Rattle.flat_policy.specs.Queue.{Clutch, Flat, LaneWindow, Queued, clutch_place, in_clutch, timeshare_lanes}
 use Rattle.flat_policy.specs.Usage.{Spans}
-use Rattle.flat_policy.specs.WellFormed.{ArrivalsRise, EachQueued, HasOrderNumber, TurnBelow, TurnsDiffer, WellFormed}
+use Rattle.flat_policy.specs.WellFormed.{ArrivalsRise, EachQueued, HasOrderNumber, TurnBelow, TurnsDiffer, WellFormed, WellFormedWithin}
 use Rattle.flat_policy.proofs.Entries.{each_from_members, each_member}
 use Rattle.flat_policy.proofs.KeptLanes.{lane_names}
 use Rattle.flat_policy.proofs.Members.{contains_cases, contains_here, contains_later, member_of_filter}
@@ -46,8 +46,8 @@ pub record Parts (groups : ℕ) (entries : List Queued) (spans : List Spans) (tu
 abbrev pub PartsOf : ℕ → Flat → Type 0
 PartsOf groups s = Parts groups s.entries s.spans s.turns s.lanes s.next_arrival s.next_turn
 
-pub parts_of : (groups : ℕ) (s : Flat) → WellFormed groups s → PartsOf groups s
-parts_of groups s w = record {
+pub parts_within : (limit groups : ℕ) (s : Flat) → WellFormedWithin limit groups s → PartsOf groups s
+parts_within limit groups s w = record {
   entries_fit = record { rise = w.arrivals_rise; below = w.arrivals_below; orders = w.order_numbers; grouped = w.groups_below };
   turns_fit = record { long = w.turns_length; below = w.turns_below; differ = w.turns_differ };
   turns_stand = w.turns_where_entries;
@@ -55,8 +55,11 @@ parts_of groups s w = record {
   ten = w.ten_lanes;
 }
 
-pub well_formed_from : (groups : ℕ) (s : Flat) → length s.entries ≤ 4096 → PartsOf groups s → WellFormed groups s
-well_formed_from groups s few p = record {
+pub parts_of : (groups : ℕ) (s : Flat) → WellFormed groups s → PartsOf groups s
+parts_of groups s w = parts_within 4096 groups s w
+
+pub well_formed_within : (limit groups : ℕ) (s : Flat) → length s.entries ≤ limit → PartsOf groups s → WellFormedWithin limit groups s
+well_formed_within limit groups s few p = record {
   few = few;
   arrivals_rise = p.entries_fit.rise;
   arrivals_below = p.entries_fit.below;
@@ -69,6 +72,9 @@ well_formed_from groups s few p = record {
   turns_length = p.turns_fit.long;
   ten_lanes = p.ten;
 }
+
+pub well_formed_from : (groups : ℕ) (s : Flat) → length s.entries ≤ 4096 → PartsOf groups s → WellFormed groups s
+well_formed_from groups s few p = well_formed_within 4096 groups s few p
 
 -- entries of a filter, of one more, and with other prices
 pub each_filter : (P : Queued → Type 0) (p : Queued → Bool) (es : List Queued) → EachQueued P es → EachQueued P (filter p es)
