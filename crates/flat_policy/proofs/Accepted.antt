@@ -1,6 +1,5 @@
 -- What each step that the setup fits does to a sound state.
-use Rattle.std.proofs.Common.{◌≡◌, ℕ, ◌-◌, ◌<◌, ◌≤◌, ◌==◌, ◌^◌, nat_le, nat_lt, Bool, true, false, ◌&&◌, cond, List, [], ◌∷◌, length, Option, Some, None, is_some, max, refl, sym, ap, ◌∙◌, subst, arith}
-use Rattle.std.specs.List.{list_any}
+use Rattle.std.proofs.Common.{◌≡◌, ℕ, ◌<◌, ◌==◌, ◌^◌, nat_le, nat_lt, Bool, true, false, ◌&&◌, cond, List, [], ◌∷◌, Option, Some, None, is_some, refl, sym, subst}
 use Rattle.std.specs.Option.{option_map_or}
 use Rattle.std.proofs.lemmas.Bool.{and_parts, false≢true, leb-false, leb-true, ltb-true}
 use Rattle.std.proofs.lemmas.Option.{none-some, same_Some}
@@ -17,7 +16,6 @@ use Rattle.flat_policy.specs.Machine.{Game, Refusal, accepted_by, effective_mome
 use Rattle.flat_policy.specs.Setup.{SetupParts, actor_count, cluster_count, group_count, home_of}
 use Rattle.flat_policy.proofs.HandMoves.{aim_goes, look_goes, power_goes, ran_goes, refresh_goes}
 use Rattle.flat_policy.proofs.Moved.{enter_goes, offer_out, pull_goes, select_out, taking_goes}
-use Rattle.flat_policy.proofs.Placed.{placed}
 use Rattle.flat_policy.proofs.SoundParts.{Goes, goes_nowhere, home_within}
 use Rattle.flat_policy.proofs.YardMoves.{blocked_goes, end_goes, make_goes, sleep_goes, wake_goes}
 
@@ -54,33 +52,33 @@ accepted_goes setup g a now (acts.Make name group bucket base bound) sound ain f
     let used = no_refusal (name_used g.yard name) (no_room setup g.yard ∷ []) full.1 in
     let room = no_refusal (no_room setup g.yard) [] used.1 in
     make_goes setup g a now (made_thread setup name group bucket base bound now) sound ain (no_thread (hand_at g a).thread full.0)
-        (made_fits setup name group bucket base bound now fits) used.0 (leb-false setup.threads (live_count g.yard) room.0)
+    (made_fits setup name group bucket base bound now fits) used.0 (leb-false setup.threads (live_count g.yard) room.0)
 accepted_goes setup g a now (acts.Enter c head) sound ain fits none =
     enter_goes setup g a c head now sound ain (ltb-true c (cluster_count setup) fits) (hand_at g a).thread refl
 accepted_goes setup g a now acts.Select sound ain fits none =
     let home = home_within setup a ain in
     let c = home_of setup a in
     taking_goes setup g a c now (select_event setup c now (flat_at g c)) sound ain home
-        (no_thread (hand_at g a).thread (no_refusal (hand_full (hand_at g a)) [] none).0)
-        (select_out setup (flat_at g c) c now (sound.flats c home))
+    (no_thread (hand_at g a).thread (no_refusal (hand_full (hand_at g a)) [] none).0)
+    (select_out setup (flat_at g c) c now (sound.flats c home))
 accepted_goes setup g a now (acts.Offer c) sound ain fits none =
     let cin = ltb-true c (cluster_count setup) fits in
     taking_goes setup g a c now (offer_event setup c (home_of setup a) now (flat_at g c)) sound ain cin
-        (no_thread (hand_at g a).thread (no_refusal (hand_full (hand_at g a)) (refuse (c == home_of setup a) answers.OwnCluster ∷ []) none).0)
-        (offer_out setup (flat_at g c) c (home_of setup a) now (sound.flats c cin))
+    (no_thread (hand_at g a).thread (no_refusal (hand_full (hand_at g a)) (refuse (c == home_of setup a) answers.OwnCluster ∷ []) none).0)
+    (offer_out setup (flat_at g c) c (home_of setup a) now (sound.flats c cin))
 accepted_goes setup g a now (acts.Pull name) sound ain fits none =
     let c = home_of setup a in
     pull_goes setup g a c now name sound ain (home_within setup a ain)
-        (no_thread (hand_at g a).thread (no_refusal (hand_full (hand_at g a)) (not_queued g (flat_at g c) name ∷ []) none).0)
-        (named_entry (flat_at g c) name) refl
+    (no_thread (hand_at g a).thread (no_refusal (hand_full (hand_at g a)) (not_queued g (flat_at g c) name ∷ []) none).0)
+    (named_entry (flat_at g c) name) refl
 accepted_goes setup g a now (acts.Look c) sound ain fits none = look_goes setup g a c now sound ain (ltb-true c (cluster_count setup) fits) (hand_at g a).thread
 accepted_goes setup g a now acts.Aim sound ain fits none = aim_goes setup g a now sound ain (hand_at g a).thread
 accepted_goes setup g a now (acts.Ran us) sound ain fits none = ran_goes setup g a us now sound ain (hand_at g a).thread refl
 accepted_goes setup g a now acts.Sleep sound ain fits none = sleep_goes setup g a now sound ain (hand_at g a).thread refl
 accepted_goes setup g a now (acts.Wake name) sound ain fits none =
     wake_goes setup g a now name sound ain
-        (no_thread (hand_at g a).thread (no_refusal (hand_full (hand_at g a)) (not_blocked g name ∷ []) none).0)
-        (sleeper_of g.yard name) refl
+    (no_thread (hand_at g a).thread (no_refusal (hand_full (hand_at g a)) (not_blocked g name ∷ []) none).0)
+    (sleeper_of g.yard name) refl
 accepted_goes setup g a now acts.End sound ain fits none = end_goes setup g a now sound ain (hand_at g a).thread refl
 accepted_goes setup g a now acts.Blocked sound ain fits none = blocked_goes setup g a now sound ain
 accepted_goes setup g a now acts.Refresh sound ain fits none = refresh_goes setup g a (home_of setup a) now sound ain (home_within setup a ain)

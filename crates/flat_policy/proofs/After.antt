@@ -1,5 +1,5 @@
 -- Which entries stand in a queue after each step.
-use Rattle.std.proofs.Common.{◌≡◌, ℕ, ◌==◌, Bool, true, false, not, ◌||◌, cond, Contains, List, [], ◌∷◌, ◌++◌, filter, Option, Some, None, is_some, refl, sym, ap, ◌∙◌, arith}
+use Rattle.std.proofs.Common.{◌≡◌, ℕ, ◌==◌, Bool, not, ◌||◌, cond, List, [], ◌∷◌, ◌++◌, Option, Some, None, is_some, refl, sym, ap, ◌∙◌}
 use Rattle.std.proofs.lemmas.Bool.{cond_both}
 use Rattle.sched_base.specs.declared.Facts.{Facts}
 use Rattle.bucket_tables.specs.declared.Lane.{Lane}
@@ -16,7 +16,7 @@ entered_entries ts t head now s =
     let k : Clutch = clutch_of t in
     let P : Flat → Type 0 = λ (u : Flat). u.entries ≡ s.entries ++ new_entry s (settled_thread now t) head ∷ [] in
     cond_both (is_some t.bound) after (turn_on_entering s k after) P (λ h. refl)
-        (λ h. cond_both (not (clutch_has_entries s k) || not (clutch_priority s k == clutch_priority after k)) (with_next_turn k after) after P (λ e. refl) (λ e. refl))
+    (λ h. cond_both (not (clutch_has_entries s k) || not (clutch_priority s k == clutch_priority after k)) (with_next_turn k after) after P (λ e. refl) (λ e. refl))
 
 pub removed_entries : (e : Queued) (now : ℕ) (s : Flat) → (removed e now s).entries ≡ without e.arrival s.entries
 removed_entries e now s =
@@ -25,8 +25,8 @@ removed_entries e now s =
     let P : Flat → Type 0 = λ (u : Flat). u.entries ≡ without e.arrival s.entries in
     let same : Bool = clutch_priority s k == clutch_priority after k in
     cond_both (is_some e.facts.bound) after (turn_on_leaving s k after) P (λ h. refl)
-        (λ h. cond_both (not (clutch_has_entries after k)) (without_turn k after) (cond same after (with_next_turn k after)) P (λ f. refl)
-            (λ f. cond_both same after (with_next_turn k after) P (λ g. refl) (λ g. refl)))
+    (λ h. cond_both (not (clutch_has_entries after k)) (without_turn k after) (cond same after (with_next_turn k after)) P (λ f. refl)
+    (λ f. cond_both same after (with_next_turn k after) P (λ g. refl) (λ g. refl)))
 
 removed_by_selection_entries : (e : Queued) (now : ℕ) (s : Flat) → (removed_by_selection e now s).entries ≡ without e.arrival s.entries
 removed_by_selection_entries e now s =
@@ -34,7 +34,7 @@ removed_by_selection_entries e now s =
     let k : Clutch = clutch_of e.facts in
     let P : Flat → Type 0 = λ (u : Flat). u.entries ≡ without e.arrival s.entries in
     cond_both (is_some e.facts.bound) after (turn_on_selection k after) P (λ h. refl)
-        (λ h. cond_both (clutch_has_entries after k) (with_next_turn k after) (without_turn k after) P (λ f. refl) (λ f. refl))
+    (λ h. cond_both (clutch_has_entries after k) (with_next_turn k after) (without_turn k after) P (λ f. refl) (λ f. refl))
 
 windows_entries : (ts : List Times) (now : ℕ) (kind : Option Kind) (at : Lane) (s : Flat) → (windows_after ts now kind at s).entries ≡ s.entries
 windows_entries ts now None at s = refl

@@ -1,10 +1,10 @@
 -- Aims: which clusters they name.
-use Rattle.std.proofs.Common.{◌≡◌, ◌⊎◌, ℕ, zero, suc, ◌+◌, ◌<◌, ◌≤◌, ◌==◌, nat_lt, Bool, true, false, not, ◌&&◌, ◌||◌, cond, Contains, List, [], ◌∷◌, filter, filter_map, find, Option, Some, None, is_some, is_none, Result, Ok, Err, is_err, refl, sym, ap, ◌∙◌, subst, inl, inr, arith, eq-eqb}
+use Rattle.std.proofs.Common.{◌≡◌, ℕ, zero, suc, ◌+◌, ◌<◌, ◌≤◌, ◌==◌, nat_lt, Bool, true, ◌||◌, cond, Contains, List, [], ◌∷◌, filter, filter_map, find, Option, Some, None, is_some, is_none, Result, Ok, Err, is_err, refl, sym, ap, ◌∙◌, subst, inl, inr, arith, eq-eqb}
 use Rattle.std.specs.List.{cons_option, list_any}
 use Rattle.std.proofs.lemmas.Bool.{cases_Bool, cond-false, cond-true, cond_both, false≢true, or_left, or_right}
 use Rattle.std.proofs.lemmas.Option.{none-some, same_Some}
 use Rattle.sched_base.specs.declared.Facts.{Facts}
-use Rattle.flat_policy.specs.Aim.{Look, Target, aim, aim_among, aim_by, cluster_or, dark, lighter, loaded, look_at, may_enter_by, movable, needed, needed_by, not_looked, target_at, targets}
+use Rattle.flat_policy.specs.Aim.{Look, Target, aim_among, aim_by, cluster_or, dark, lighter, loaded, look_at, may_enter_by, movable, needed, needed_by, not_looked, target_at, targets}
 use Rattle.flat_policy.specs.Laws.Aims.{AimsRight, IsLowestUnseen}
 use Rattle.flat_policy.specs.Setup.{SetupParts, cluster_count, edge_weight, migrates, numbers_below, numbers_from}
 use Rattle.flat_policy.specs.Unpreceded.{unpreceded}
@@ -19,8 +19,8 @@ member_by : {X Y : Type 0} (h : X → Option Y) (x : X) (xs : List X) (y : Y) (o
 member_by h x xs y None e c later = let m = later c in (m.0, contains_later x xs m.0 m.1, m.2)
 member_by h x xs y (Some v) e c later =
     elim (contains_cases v (filter_map h xs) y c) [
-      inl is ↦ (x, contains_here x xs, e ∙ ap (λ u. Some u) is)
-    | inr d ↦ (let m = later d in (m.0, contains_later x xs m.0 m.1, m.2))
+      | inl is ↦ (x, contains_here x xs, e ∙ ap (λ u. Some u) is)
+      | inr d ↦ (let m = later d in (m.0, contains_later x xs m.0 m.1, m.2))
     ]
 
 member_of_filter_map : {X Y : Type 0} (h : X → Option Y) (xs : List X) (y : Y) → Contains (filter_map h xs) y → (x : X) × Contains xs x × (h x ≡ Some y)
@@ -67,9 +67,9 @@ aim_enters setup looks prefer (Some b) missing c h = eq-eqb c b (sym (same_Ok b 
 aim_enters setup looks prefer None (Some m) c h = absurd (ok_err c m (sym h))
 aim_enters setup looks prefer None None c h =
     subst (λ d. ((d == prefer) || migrates setup prefer d) ≡ true) (same_Ok (aim_among prefer (look_at looks prefer) (targets setup looks prefer)) c h)
-        (among_is prefer (look_at looks prefer) (targets setup looks prefer) (λ d. ((d == prefer) || migrates setup prefer d) ≡ true)
-            (or_left (prefer == prefer) (migrates setup prefer prefer) (eq-eqb prefer prefer refl))
-            (λ x d. or_right (x.cluster == prefer) (migrates setup prefer x.cluster) (target_migrates setup looks prefer x d)))
+    (among_is prefer (look_at looks prefer) (targets setup looks prefer) (λ d. ((d == prefer) || migrates setup prefer d) ≡ true)
+    (or_left (prefer == prefer) (migrates setup prefer prefer) (eq-eqb prefer prefer refl))
+    (λ x d. or_right (x.cluster == prefer) (migrates setup prefer x.cluster) (target_migrates setup looks prefer x d)))
 
 -- numbers that ascend, and the first that passes among them
 abbrev Ascends : List ℕ → Type 0
@@ -80,8 +80,8 @@ number_from : (first count n : ℕ) → Contains (numbers_from first count) n �
 number_from first zero n c = absurd (contains_none n c)
 number_from first (suc count) n c =
     elim (contains_cases first (numbers_from (suc first) count) n c) [
-      inl is ↦ omega (arith, is)
-    | inr d ↦ omega (arith, number_from (suc first) count n d)
+      | inl is ↦ omega (arith, is)
+      | inr d ↦ omega (arith, number_from (suc first) count n d)
     ]
 
 numbers_ascend : (first count : ℕ) → Ascends (numbers_from first count)
@@ -92,22 +92,22 @@ filter_ascends : (p : ℕ → Bool) (xs : List ℕ) → Ascends xs → Ascends (
 filter_ascends p [] up = tt
 filter_ascends p (x ∷ xs) up =
     cond_both (p x) (x ∷ filter p xs) (filter p xs) Ascends
-        (λ h. (λ y c. up.0 y (member_of_filter p xs y c).0, filter_ascends p xs up.1))
-        (λ h. filter_ascends p xs up.1)
+    (λ h. (λ y c. up.0 y (member_of_filter p xs y c).0, filter_ascends p xs up.1))
+    (λ h. filter_ascends p xs up.1)
 
 first_is_least : (p : ℕ → Bool) (xs : List ℕ) → Ascends xs → (c : ℕ) → find p xs ≡ Some c → (d : ℕ) → Contains xs d → p d ≡ true → c ≤ d
 first_is_least p [] up c h d m t = absurd (contains_none d m)
 first_is_least p (x ∷ xs) up c h d m t =
     elim (cases_Bool (p x)) [
-      inl e ↦ (let is : x ≡ c = same_Some x c (sym (cond-true (p x) (Some x) (find p xs) e) ∙ h) in
+      | inl e ↦ (let is : x ≡ c = same_Some x c (sym (cond-true (p x) (Some x) (find p xs) e) ∙ h) in
           elim (contains_cases x xs d m) [
-            inl here ↦ omega (arith, is, here)
-          | inr later ↦ omega (arith, is, up.0 d later)
+            | inl here ↦ omega (arith, is, here)
+            | inr later ↦ omega (arith, is, up.0 d later)
           ])
-    | inr e ↦ elim (contains_cases x xs d m) [
-          inl here ↦ absurd (false≢true (sym e ∙ (ap p here ∙ t)))
+      | inr e ↦ elim (contains_cases x xs d m) [
+        | inl here ↦ absurd (false≢true (sym e ∙ (ap p here ∙ t)))
         | inr later ↦ first_is_least p xs up.1 c (sym (cond-false (p x) (Some x) (find p xs) e) ∙ h) d later t
-        ]
+      ]
     ]
 
 needed_by_ascends : (setup : SetupParts) (prefer : ℕ) (js : List ℕ) → Ascends (needed_by setup prefer js)
@@ -139,8 +139,8 @@ looks_first_is setup looks t c h =
 find_there : (p : ℕ → Bool) (xs : List ℕ) → is_some (find p xs) ≡ list_any p xs
 find_there p xs =
     same_bool (is_some (find p xs)) (list_any p xs)
-        (λ t. let s = some_of (find p xs) t in let m = find_finds p xs s.0 s.1 in any_from_member p xs s.0 m.0 m.1)
-        (λ t. let m = member_from_any p xs t in ap is_some (finds_from_member p xs m.0 m.1 m.2).1)
+    (λ t. let s = some_of (find p xs) t in let m = find_finds p xs s.0 s.1 in any_from_member p xs s.0 m.0 m.1)
+    (λ t. let m = member_from_any p xs t in ap is_some (finds_from_member p xs m.0 m.1 m.2).1)
 
 missing_err : (setup : SetupParts) (looks : List (Option Look)) (prefer : ℕ) (missing : Option ℕ) → is_err (aim_by setup looks prefer None missing) ≡ is_some missing
 missing_err setup looks prefer None = refl

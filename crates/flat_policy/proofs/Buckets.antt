@@ -1,10 +1,9 @@
 -- Buckets, lanes and clutch buckets by their numbers.
-use Rattle.std.proofs.Common.{◌≡◌, ◌≢◌, ◌⊎◌, ℕ, zero, suc, ◌+◌, ◌*◌, ◌<◌, Bool, true, false, ◌==◌, ◌&&◌, not, Option, Some, None, is_some, refl, sym, ap, ap₂, ◌∙◌, subst, inl, inr, arith, eqb-true, eq-eqb}
-use Rattle.std.proofs.lemmas.Bool.{and_from, and_parts, cases_Bool, cases_eq, false≢true, not-true, true≢false}
+use Rattle.std.proofs.Common.{◌≡◌, ◌≢◌, ◌⊎◌, ℕ, zero, suc, ◌*◌, ◌<◌, Bool, true, false, ◌==◌, ◌&&◌, not, is_some, refl, sym, ap, ap₂, ◌∙◌, inl, inr, arith, eqb-true, eq-eqb}
+use Rattle.std.proofs.lemmas.Bool.{and_from, and_parts, cases_eq, not-true}
 use Rattle.sched_base.specs.Bucket.{index}
 use Rattle.sched_base.specs.declared.Bucket.{Bucket}
 use Rattle.sched_base.specs.declared.Bucket.TheVariants.{Bg, Df, Fg, Ini, Ui, Ut}
-use Rattle.sched_base.specs.declared.Facts.{Facts}
 use Rattle.bucket_tables.specs.declared.Lane.{Lane}
 use Rattle.flat_policy.specs.Queue.{Clutch, Queued, clutch_of, clutch_place, in_clutch, in_lane, lane, lane_of, same_bucket, same_flag, same_lane}
 
@@ -84,8 +83,8 @@ clutch_from_place k l e =
 pub cases_clutch : (k l : Clutch) → (k ≡ l) ⊎ (k ≢ l)
 cases_clutch k l =
     elim (cases_eq (clutch_place k) (clutch_place l)) [
-      inl e ↦ inl (clutch_from_place k l e)
-    | inr n ↦ inr (λ same. n (ap clutch_place same))
+      | inl e ↦ inl (clutch_from_place k l e)
+      | inr n ↦ inr (λ same. n (ap clutch_place same))
     ]
 
 pub place_within : (groups : ℕ) (k : Clutch) → k.group < groups → clutch_place k < groups * 6
@@ -95,12 +94,13 @@ place_within groups k h = omega (arith, index_below k.bucket, h)
 pub in_clutch_parts : (k : Clutch) (e : Queued) → in_clutch k e ≡ true → (is_some e.facts.bound ≡ false) × (clutch_of e.facts ≡ k)
 in_clutch_parts k e h =
     let parts = and_parts (not (is_some e.facts.bound)) ((e.facts.group == k.group) && same_bucket e.facts.bucket k.bucket) h in
-    let both = and_parts (e.facts.group == k.group) (same_bucket e.facts.bucket k.bucket) parts.1 in
-    (not-true (is_some e.facts.bound) parts.0,
-     clutch_is e.facts.group k.group e.facts.bucket k.bucket (eqb-true e.facts.group k.group both.0) (same_bucket_is e.facts.bucket k.bucket both.1))
+    let both = and_parts (e.facts.group == k.group) (same_bucket e.facts.bucket k.bucket) parts.1 in (
+      not-true (is_some e.facts.bound) parts.0,
+      clutch_is e.facts.group k.group e.facts.bucket k.bucket (eqb-true e.facts.group k.group both.0) (same_bucket_is e.facts.bucket k.bucket both.1),
+    )
 
 pub in_own_clutch : (e : Queued) → is_some e.facts.bound ≡ false → in_clutch (clutch_of e.facts) e ≡ true
 in_own_clutch e h =
     and_from (not (is_some e.facts.bound)) ((e.facts.group == e.facts.group) && same_bucket e.facts.bucket e.facts.bucket)
-        (ap not h)
-        (and_from (e.facts.group == e.facts.group) (same_bucket e.facts.bucket e.facts.bucket) (eq-eqb e.facts.group e.facts.group refl) (same_bucket_itself e.facts.bucket))
+    (ap not h)
+    (and_from (e.facts.group == e.facts.group) (same_bucket e.facts.bucket e.facts.bucket) (eq-eqb e.facts.group e.facts.group refl) (same_bucket_itself e.facts.bucket))

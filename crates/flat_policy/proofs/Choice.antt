@@ -1,6 +1,5 @@
 -- The choice of the member that no other precedes: what is chosen, that there is one, and that it is the only one.
-use Rattle.std.proofs.Common.{◌≡◌, ◌⊎◌, ◌↔◌, ℕ, Bool, true, false, not, ◌||◌, List, [], ◌∷◌, Option, Some, None, is_some, Contains, All, fold, find, cond, refl, sym, ap, ◌∙◌, subst, inl, inr, arith}
-use Rattle.std.specs.List.{list_any}
+use Rattle.std.proofs.Common.{◌≡◌, ◌⊎◌, Bool, true, false, not, List, [], ◌∷◌, Option, Some, None, is_some, Contains, fold, cond, refl, sym, ap, ◌∙◌, subst, inl, inr}
 use Rattle.std.proofs.lemmas.Bool.{cases_Bool, false≢true, not-true, not_from_false, false_from_ne_true}
 use Rattle.std.proofs.lemmas.List.Elements.{All-contains}
 use Rattle.flat_policy.specs.Unpreceded.{IsUnpreceded, is_preceded, unpreceded}
@@ -21,14 +20,14 @@ is_unpreceded before xs x h =
 pub chosen_from_unpreceded : {X : Type 0} (before : X → X → Bool) (xs : List X) (x : X) → IsUnpreceded before xs x → (y : X) × (unpreceded before xs ≡ Some y)
 chosen_from_unpreceded before xs x h =
     finds_from_member (λ z. not (is_preceded before xs z)) xs x h.member
-        (not_from_false (is_preceded before xs x)
-            (none_from_each (λ y. before y x) xs (λ y c. All-contains (λ z. before z x ≡ false) xs y h.first c)))
+    (not_from_false (is_preceded before xs x)
+    (none_from_each (λ y. before y x) xs (λ y c. All-contains (λ z. before z x ≡ false) xs y h.first c)))
 
 pub only_one : {X : Type 0} (before : X → X → Bool) (xs : List X) → OrdersMembers before xs → (x y : X) → IsUnpreceded before xs x → IsUnpreceded before xs y → x ≡ y
 only_one before xs o x y h k =
     o.total x y h.member k.member
-        (All-contains (λ z. before z y ≡ false) xs x k.first h.member)
-        (All-contains (λ z. before z x ≡ false) xs y h.first k.member)
+    (All-contains (λ z. before z y ≡ false) xs x k.first h.member)
+    (All-contains (λ z. before z x ≡ false) xs y h.first k.member)
 
 -- a strict order on what has M, not necessarily total
 pub record StrictOn {X : Type 0} (M : X → Type 0) (before : X → X → Bool) : Type 0 where
@@ -49,14 +48,14 @@ takes_one M before o b x xs mb mx e p = record {
   best = p.best;
   found = ap (λ t. fold (better before) (cond t (Some x) (Some b)) xs) e ∙ p.found;
   stood = inr (elim p.stood [
-      inl is ↦ subst (λ z. Contains (x ∷ xs) z) is (contains_here x xs)
+    | inl is ↦ subst (λ z. Contains (x ∷ xs) z) is (contains_here x xs)
     | inr c ↦ contains_later x xs p.best c
-    ]);
+  ]);
   kept = λ y m h. p.kept y m (false_from_ne_true (before y x) (λ t. false≢true (sym h ∙ o.transitive y x b m mx mb t e)));
   first = λ y c. elim (contains_cases x xs y c) [
-      inl is ↦ subst (λ z. before z p.best ≡ false) is (p.kept x mx (o.irreflexive x mx))
+    | inl is ↦ subst (λ z. before z p.best ≡ false) is (p.kept x mx (o.irreflexive x mx))
     | inr d ↦ p.first y d
-    ];
+  ];
 }
 
 -- one more that does not go before the best so far leaves it
@@ -67,9 +66,9 @@ keeps_one M before b x xs mx e p = record {
   stood = elim p.stood [ inl is ↦ inl is | inr c ↦ inr (contains_later x xs p.best c) ];
   kept = p.kept;
   first = λ y c. elim (contains_cases x xs y c) [
-      inl is ↦ subst (λ z. before z p.best ≡ false) is (p.kept x mx e)
+    | inl is ↦ subst (λ z. before z p.best ≡ false) is (p.kept x mx e)
     | inr d ↦ p.first y d
-    ];
+  ];
 }
 
 pub pass_finds : {X : Type 0} (M : X → Type 0) (before : X → X → Bool) → StrictOn M before → (b : X) (xs : List X) → M b → ((y : X) → Contains xs y → M y) → PassFinds M before b xs
@@ -77,26 +76,29 @@ pass_finds M before o b [] mb mxs =
     record { best = b; found = refl; stood = inl refl; kept = λ y m h. h; first = λ y c. absurd (contains_none y c) }
 pass_finds M before o b (x ∷ xs) mb mxs =
     elim (cases_Bool (before x b)) [
-      inl e ↦ takes_one M before o b x xs mb (mxs x (contains_here x xs)) e
+      | inl e ↦ takes_one M before o b x xs mb (mxs x (contains_here x xs)) e
           (pass_finds M before o x xs (mxs x (contains_here x xs)) (λ y c. mxs y (contains_later x xs y c)))
-    | inr e ↦ keeps_one M before b x xs (mxs x (contains_here x xs)) e
+      | inr e ↦ keeps_one M before b x xs (mxs x (contains_here x xs)) e
           (pass_finds M before o b xs mb (λ y c. mxs y (contains_later x xs y c)))
     ]
 
 -- one pass over a list that has members finds one that is preceded by none
 pub scan_finds : {X : Type 0} (before : X → X → Bool) (x : X) (xs : List X) → StrictOn (Contains (x ∷ xs)) before → (best : X) × (fold (better before) None (x ∷ xs) ≡ Some best) × IsUnpreceded before (x ∷ xs) best
 scan_finds before x xs o =
-    let p = pass_finds (Contains (x ∷ xs)) before o x xs (contains_here x xs) (λ y c. contains_later x xs y c) in
-    (p.best, p.found, record {
-      member = elim p.stood [
-          inl is ↦ subst (λ z. Contains (x ∷ xs) z) is (contains_here x xs)
-        | inr c ↦ contains_later x xs p.best c
+    let p = pass_finds (Contains (x ∷ xs)) before o x xs (contains_here x xs) (λ y c. contains_later x xs y c) in (
+      p.best,
+      p.found,
+      record {
+        member = elim p.stood [
+          | inl is ↦ subst (λ z. Contains (x ∷ xs) z) is (contains_here x xs)
+          | inr c ↦ contains_later x xs p.best c
         ];
-      first = all_from_members (λ y. before y p.best ≡ false) (x ∷ xs) (λ y c. elim (contains_cases x xs y c) [
-          inl is ↦ subst (λ z. before z p.best ≡ false) is (p.kept x (contains_here x xs) (o.irreflexive x (contains_here x xs)))
-        | inr d ↦ p.first y d
+        first = all_from_members (λ y. before y p.best ≡ false) (x ∷ xs) (λ y c. elim (contains_cases x xs y c) [
+          | inl is ↦ subst (λ z. before z p.best ≡ false) is (p.kept x (contains_here x xs) (o.irreflexive x (contains_here x xs)))
+          | inr d ↦ p.first y d
         ]);
-    })
+      },
+    )
 
 -- under a strict order, total or not, one is chosen exactly where the list has members
 pub there_under_strict : {X : Type 0} (before : X → X → Bool) (xs : List X) → StrictOn (Contains xs) before → is_some (unpreceded before xs) ≡ has_member xs

@@ -1,16 +1,15 @@
 -- The chosen lane: there is one exactly where there are entries, and it has entries.
-use Rattle.std.proofs.Common.{◌≡◌, ℕ, Bool, true, false, not, ◌||◌, nat_le, cond, Contains, List, [], ◌∷◌, filter, map, Option, Some, None, is_some, option_map, refl, sym, ap, ◌∙◌, subst, inl, inr, arith, nat_lt}
+use Rattle.std.proofs.Common.{◌≡◌, Bool, true, false, not, ◌||◌, nat_le, cond, Contains, List, [], ◌∷◌, filter, map, Option, Some, None, is_some, option_map, refl, sym, ap, ◌∙◌, subst, inl, inr, arith, nat_lt}
 use Rattle.std.specs.List.{list_any}
-use Rattle.std.proofs.lemmas.Bool.{cases_Bool, cond-false, cond-true, false≢true, and_parts}
+use Rattle.std.proofs.lemmas.Bool.{cases_Bool, false≢true, and_parts}
 use Rattle.std.proofs.lemmas.Option.{same_Some}
 use Rattle.sched_base.specs.Bucket.{index}
 use Rattle.sched_base.specs.declared.Bucket.TheVariants.{Fg, Ui}
-use Rattle.bucket_tables.specs.declared.Lane.{Lane}
 use Rattle.flat_policy.specs.declared.setup.Times.{Times}
 use Rattle.flat_policy.specs.Laws.Choice.{has_member}
 use Rattle.flat_policy.specs.Laws.Picks.{ChoosesFilled}
 use Rattle.flat_policy.specs.Queue.{Flat, LaneWindow, Queued, has_entries, in_lane, timeshare_lanes}
-use Rattle.flat_policy.specs.Windows.{Choice, above_ui, better_ui_lane, bucket_has_entries, bucket_priority, chosen, chosen_against, chosen_behind, chosen_by_deadline, chosen_under, due_before, earliest, filled_lanes, higher_lanes, may_pass, passing, some_higher, stands_higher, ui_goes_first}
+use Rattle.flat_policy.specs.Windows.{Choice, better_ui_lane, bucket_has_entries, bucket_priority, chosen, chosen_against, chosen_behind, chosen_by_deadline, chosen_under, due_before, earliest, filled_lanes, higher_lanes, may_pass, passing, some_higher, stands_higher, ui_goes_first}
 use Rattle.flat_policy.proofs.Choice.{is_unpreceded, there_under_strict}
 use Rattle.flat_policy.proofs.Chosen.{better_ui_has, due_strict, filled_entry, filled_from_entry, has_from_member}
 use Rattle.flat_policy.proofs.Greatest.{filter_none}
@@ -34,7 +33,7 @@ by_deadline_filled ts s None e c h = absurd (false≢true (ap is_some h))
 by_deadline_filled ts s (Some l) e c h =
     let same : chosen_against (passing ts s l) s l ≡ c = grind (arith, h) in
     subst (λ (d : Choice). has_entries s d.lane ≡ true) same
-        (against_filled ts s l (filled_entry s l (is_unpreceded due_before (filled_lanes s) l e).member) (passing ts s l) refl)
+    (against_filled ts s l (filled_entry s l (is_unpreceded due_before (filled_lanes s) l e).member) (passing ts s l) refl)
 
 by_deadline_there : (o : Option LaneWindow) (f : LaneWindow → Choice) → is_some (option_map f o) ≡ is_some o
 by_deadline_there None f = refl
@@ -44,7 +43,7 @@ by_deadline_there (Some l) f = refl
 none_filled : (s : Flat) → s.entries ≡ [] → filled_lanes s ≡ []
 none_filled s e =
     filter_none (λ (l : LaneWindow). has_entries s l.lane) s.lanes
-        (none_from_each (λ (l : LaneWindow). has_entries s l.lane) s.lanes (λ l c. ap (list_any (in_lane l.lane)) e))
+    (none_from_each (λ (l : LaneWindow). has_entries s l.lane) s.lanes (λ l c. ap (list_any (in_lane l.lane)) e))
 
 filled_is : (s : Flat) → map (λ (l : LaneWindow). l.lane) s.lanes ≡ timeshare_lanes → ui_goes_first s ≡ false → (es : List Queued) → s.entries ≡ es → has_member (filled_lanes s) ≡ has_member es
 filled_is s ten h [] e = ap (λ ls. has_member ls) (none_filled s e)
@@ -60,7 +59,7 @@ same_choice {c} {d} h = same_Some c d h
 first_by_ui : (ts : List Times) (s : Flat) → ui_goes_first s ≡ true → ChoosesFilled ts s
 first_by_ui ts s h =
     let is : chosen ts s ≡ Some (record { lane = better_ui_lane s; kind = None }) =
-        ap (λ b. chosen_under (cond b (Some (better_ui_lane s)) None) ts s) h in
+    ap (λ b. chosen_under (cond b (Some (better_ui_lane s)) None) ts s) h in
     let has = better_ui_has s (ui_from_first s h) in
     let m = member_from_any (in_lane (better_ui_lane s)) s.entries has in
     record {
@@ -80,6 +79,6 @@ first_by_deadline ts s ten h =
 pub chooses_filled : (ts : List Times) (s : Flat) → map (λ (l : LaneWindow). l.lane) s.lanes ≡ timeshare_lanes → ChoosesFilled ts s
 chooses_filled ts s ten =
     elim (cases_Bool (ui_goes_first s)) [
-      inl e ↦ first_by_ui ts s e
-    | inr e ↦ first_by_deadline ts s ten e
+      | inl e ↦ first_by_ui ts s e
+      | inr e ↦ first_by_deadline ts s ten e
     ]

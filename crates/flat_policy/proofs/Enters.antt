@@ -1,24 +1,22 @@
 -- Entering keeps a queue well-formed.
-use Rattle.std.proofs.Common.{◌≡◌, ◌≢◌, ◌⊎◌, ℕ, ◌+◌, ◌*◌, ◌<◌, ◌==◌, Bool, true, false, not, ◌||◌, cond, Contains, List, [], ◌∷◌, ◌++◌, filter, length, pos, negsuc, Option, Some, None, is_some, set, refl, sym, ap, ◌∙◌, subst, inl, inr, arith}
+use Rattle.std.proofs.Common.{◌≡◌, ◌≢◌, ◌⊎◌, ℕ, ◌+◌, ◌<◌, ◌==◌, Bool, true, false, not, ◌||◌, List, [], ◌∷◌, ◌++◌, length, pos, negsuc, is_some, set, refl, sym, ap, ◌∙◌, inl, inr}
 use Rattle.std.specs.List.{list_any}
-use Rattle.std.proofs.lemmas.Bool.{cases_Bool, cond_both, cond-true, cond-false, false≢true, false_from_ne_true, not-false, or_parts, or_left, or_right}
+use Rattle.std.proofs.lemmas.Bool.{cond_both, false≢true, false_from_ne_true, not-false, or_parts}
 use Rattle.std.proofs.lemmas.List.{length-set}
 use Rattle.std.proofs.lemmas.List.Elements.{Contains-push}
 use Rattle.std.proofs.lemmas.List.Folds.{list_any-append}
 use Rattle.sched_base.specs.declared.Facts.{Facts}
 use Rattle.bucket_tables.specs.declared.Lane.{Lane}
 use Rattle.flat_policy.specs.declared.setup.Times.{Times}
-use Rattle.flat_policy.specs.Moves.{clutch_has_entries, entered, lanes_filled, new_entry, settled_thread, spans_with, turn_on_entering, with_entry, with_next_turn, without_turn}
+use Rattle.flat_policy.specs.Moves.{clutch_has_entries, entered, lanes_filled, new_entry, settled_thread, spans_with, turn_on_entering, with_entry, with_next_turn}
 use Rattle.flat_policy.specs.Precedence.{clutch_priority}
-use Rattle.flat_policy.specs.Queue.{Clutch, Flat, LaneWindow, Queued, clutch_of, clutch_place, has_entries, in_clutch, lane_of, order_number, spans_of, timeshare_lanes}
+use Rattle.flat_policy.specs.Queue.{Clutch, Flat, LaneWindow, Queued, clutch_of, clutch_place, has_entries, in_clutch, lane_of, order_number, spans_of}
 use Rattle.flat_policy.specs.Usage.{Spans, with_spans}
-use Rattle.flat_policy.specs.WellFormed.{HasOrderNumber}
 use Rattle.flat_policy.specs.Windows.{at_lane, renewed_deadline}
 use Rattle.flat_policy.proofs.Buckets.{in_clutch_parts, in_own_clutch}
 use Rattle.flat_policy.proofs.KeptLanes.{at_lane_keeps, lane_names}
-use Rattle.flat_policy.proofs.Members.{any_from_member, member_from_any, member_of_filter, filter_has}
-use Rattle.flat_policy.proofs.Parts.{EntriesFit, Parts, PartsOf, TurnsFit, TurnsStand, TurnsStandBut, push_fits, turn_in}
-use Rattle.flat_policy.proofs.Turns.{next_turn_fits, no_turn_fits, right_stands, set_stands}
+use Rattle.flat_policy.proofs.Members.{any_from_member}
+use Rattle.flat_policy.proofs.Parts.{EntriesFit, PartsOf, push_fits}
 use Rattle.flat_policy.proofs.Wholes.{PartsBut, any_of_filter, whole_as_is, whole_with_next}
 
 or_nothing : (b : Bool) → (b || (false || false)) ≡ b
@@ -49,7 +47,7 @@ spans_kept s t =
 lanes_kept : (ts : List Times) (now : ℕ) (s : Flat) (at : Lane) → lane_names (lanes_filled ts now s at) ≡ lane_names s.lanes
 lanes_kept ts now s at =
     cond_both (has_entries s at) s.lanes (at_lane at (renewed_deadline ts now) s.lanes) (λ (ls : List LaneWindow). lane_names ls ≡ lane_names s.lanes)
-        (λ e. refl) (λ e. at_lane_keeps at (renewed_deadline ts now) (λ l. refl) s.lanes)
+    (λ e. refl) (λ e. at_lane_keeps at (renewed_deadline ts now) (λ l. refl) s.lanes)
 
 -- the queue with the entry, but for the turn of its clutch bucket; a bound entry needs none
 entry_fits : (groups : ℕ) (ts : List Times) (t : Facts) (head : Bool) (now : ℕ) (s : Flat) → PartsOf groups s → t.group < groups → EntriesFit groups (s.next_arrival + 1) (with_entry ts t head now s).entries
@@ -93,13 +91,13 @@ turn_fits groups ts t head now s p in' free =
     let empty : Bool = not (clutch_has_entries s k) in
     let moved : Bool = not (clutch_priority s k == clutch_priority after k) in
     cond_both (empty || moved) (with_next_turn k after) after (PartsOf groups)
-        (λ e. whole_with_next groups k after but filled)
-        (λ e. whole_as_is groups k after but
-            (p.turns_stand k in' ∙ (sym (any_of_filter (in_clutch k) s.entries) ∙ (not-false (clutch_has_entries s k) (or_parts empty moved e).0 ∙ sym filled))))
+    (λ e. whole_with_next groups k after but filled)
+    (λ e. whole_as_is groups k after but
+    (p.turns_stand k in' ∙ (sym (any_of_filter (in_clutch k) s.entries) ∙ (not-false (clutch_has_entries s k) (or_parts empty moved e).0 ∙ sym filled))))
 
 pub entered_fits : (groups : ℕ) (ts : List Times) (t : Facts) (head : Bool) (now : ℕ) (s : Flat) → PartsOf groups s → t.group < groups → PartsOf groups (entered ts t head now s)
 entered_fits groups ts t head now s p in' =
     let after : Flat = with_entry ts t head now s in
     cond_both (is_some t.bound) after (turn_on_entering s (clutch_of t) after) (PartsOf groups)
-        (λ e. with_bound_entry groups ts t head now s p in' e)
-        (λ e. turn_fits groups ts t head now s p in' e)
+    (λ e. with_bound_entry groups ts t head now s p in' e)
+    (λ e. turn_fits groups ts t head now s p in' e)

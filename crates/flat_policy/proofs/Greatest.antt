@@ -1,7 +1,7 @@
 -- The greatest of some numbers, and the priority of a lane.
-use Rattle.std.proofs.Common.{◌≡◌, ℕ, ◌+◌, ◌≤◌, ◌<◌, max, Bool, true, false, cond, Contains, List, [], ◌∷◌, filter, fold, map, is_some, refl, sym, ap, ◌∙◌, subst, inl, inr, arith}
+use Rattle.std.proofs.Common.{◌≡◌, ℕ, ◌≤◌, ◌<◌, max, Bool, true, false, cond, Contains, List, [], ◌∷◌, filter, fold, map, is_some, refl, ap, ◌∙◌, subst, inl, inr, arith}
 use Rattle.std.specs.List.{list_any}
-use Rattle.std.proofs.lemmas.Bool.{cond-false, or_parts, cases_Bool}
+use Rattle.std.proofs.lemmas.Bool.{cond-false, or_parts}
 use Rattle.sched_base.specs.declared.Bucket.{Bucket}
 use Rattle.sched_base.specs.declared.Bucket.TheVariants.{Ui}
 use Rattle.flat_policy.specs.Precedence.{bound_priority, clutch_priority, greatest, unit_priority, greatest_pri}
@@ -26,8 +26,8 @@ pub greatest_at_least : {X : Type 0} (f : X → ℕ) (a : ℕ) (xs : List X) (x 
 greatest_at_least f a [] x c = absurd (contains_none x c)
 greatest_at_least f a (y ∷ ys) x c =
     elim (contains_cases y ys x c) [
-      inl is ↦ subst (λ z. f z ≤ fold max (max a (f y)) (map f ys)) is (omega (arith, fold_max_from (max a (f y)) (map f ys)))
-    | inr d ↦ greatest_at_least f (max a (f y)) ys x d
+      | inl is ↦ subst (λ z. f z ≤ fold max (max a (f y)) (map f ys)) is (omega (arith, fold_max_from (max a (f y)) (map f ys)))
+      | inr d ↦ greatest_at_least f (max a (f y)) ys x d
     ]
 
 pub empty_lane_priority : (s : Flat) (bound : Bool) (b : Bucket) → has_entries s (lane b bound) ≡ false → lane_priority s (lane b bound) ≡ 0
@@ -43,7 +43,7 @@ ui_unit_priority s e h =
     let k : Clutch = clutch_of e.facts in
     let n : ℕ = greatest_pri (clutch_entries s k) in
     let sixteen : score (spans_of s k).used (spans_of s k).blocked e.facts.bucket ≡ 16 =
-        ap (λ (b : Bucket). score (spans_of s k).used (spans_of s k).blocked b) ui in
+    ap (λ (b : Bucket). score (spans_of s k).used (spans_of s k).blocked b) ui in
     let same : unit_priority s e.facts ≡ clutch_priority s k = ap (λ t. cond t (bound_priority s e.facts.bucket) (clutch_priority s k)) unbound in
     omega (arith, same, sixteen)
 
@@ -52,5 +52,5 @@ ui_lane_priority s h =
     let m = member_from_any (in_lane (lane Ui false)) s.entries h in
     let above = ui_unit_priority s m.0 m.2 in
     let least = greatest_at_least (λ (e : Queued). unit_priority s e.facts) 0 (lane_entries s (lane Ui false)) m.0
-        (filter_has (in_lane (lane Ui false)) s.entries m.0 m.1 m.2) in
+    (filter_has (in_lane (lane Ui false)) s.entries m.0 m.1 m.2) in
     omega (arith, above, least)

@@ -1,5 +1,5 @@
 -- Steps that leave every thread in its place: looks, aims, runs, refreshes, and turning a cluster off and on.
-use Rattle.std.proofs.Common.{◌≡◌, ℕ, ◌+◌, ◌<◌, ◌≤◌, Bool, true, false, cond, Contains, List, [], ◌∷◌, ◌++◌, count_by, length, map, set, Option, Some, None, refl, sym, ap, ◌∙◌, subst, inl, arith, append-nil}
+use Rattle.std.proofs.Common.{◌≡◌, ℕ, ◌<◌, Bool, cond, [], count_by, Option, Some, None, refl, sym, ap, ◌∙◌, subst, inl, arith, append-nil}
 use Rattle.std.proofs.lemmas.List.{length-set}
 use Rattle.std.proofs.lemmas.Option.{same_Some}
 use Rattle.sched_base.specs.Facts.{charged}
@@ -7,12 +7,12 @@ use Rattle.sched_base.specs.declared.Answer.{Answer}
 use Rattle.sched_base.specs.declared.Facts.{Facts}
 use Rattle.flat_policy.specs.ClusterSteps.{Event, look_event, power_event, refresh_event, touched}
 use Rattle.flat_policy.specs.Laws.Sound.{FlatFits, HandFits, Sound, ThreadFits}
-use Rattle.flat_policy.specs.Machine.{Game, Hand, aim_outcome, flat_at, hand_at, kept_hand, leaving_hand, look_outcome, looked_hand, ran_outcome, seen_look, with_hand, with_yard}
+use Rattle.flat_policy.specs.Machine.{Game, Hand, aim_outcome, flat_at, hand_at, kept_hand, leaving_hand, look_outcome, looked_hand, ran_outcome, seen_look, with_hand}
 use Rattle.flat_policy.specs.Queue.{Flat, Queued}
 use Rattle.flat_policy.specs.Refresh.{refreshed, repriced}
 use Rattle.flat_policy.specs.Setup.{SetupParts, actor_count, cluster_count, group_count, home_of, rate_of}
 use Rattle.flat_policy.specs.WellFormed.{EachQueued}
-use Rattle.flat_policy.proofs.Parts.{PartsOf, each_map}
+use Rattle.flat_policy.proofs.Parts.{each_map}
 use Rattle.flat_policy.proofs.Placed.{held_by_test, passes, queued_by, sum_by_map}
 use Rattle.flat_policy.proofs.Refreshed.{refreshed_entries, refreshed_fits}
 use Rattle.flat_policy.proofs.Refreshes.{repriced_facts}
@@ -36,8 +36,8 @@ touched_fits setup s now fit = flat_fits setup (touched now s) (flat_parts setup
 pub power_goes : (setup : SetupParts) (g : Game) (a c now : ℕ) (on : Bool) → Sound setup g → a < actor_count setup → c < cluster_count setup → Goes setup g (leaving_hand g a (hand_at g a) c now (power_event on now (flat_at g c))).game
 power_goes setup g a c now on sound ain cin =
     leaving_goes setup g a c now (power_event on now (flat_at g c)) sound ain cin
-        (flat_fits setup (record (flat_at g c) { on = on; last = now }) (flat_parts setup (flat_at g c) (sound.flats c cin)) (sound.flats c cin).threads)
-        (λ p. refl)
+    (flat_fits setup (record (flat_at g c) { on = on; last = now }) (flat_parts setup (flat_at g c) (sound.flats c cin)) (sound.flats c cin).threads)
+    (λ p. refl)
 
 -- a refresh leaves each name, and each thread in range
 repriced_name : (s : Flat) (now : ℕ) (e : Queued) → (repriced s now e).facts.name ≡ e.facts.name
@@ -46,34 +46,34 @@ repriced_name s now e = repriced_facts s now e (λ f. f.facts.name ≡ e.facts.n
 repriced_fits : (setup : SetupParts) (s : Flat) (now : ℕ) (e : Queued) → ThreadFits setup e.facts → ThreadFits setup (repriced s now e).facts
 repriced_fits setup s now e fit =
     repriced_facts s now e (λ f. ThreadFits setup f.facts) fit
-        (λ t pri h. subst (ThreadFits setup) (sym h) (record { group = fit.group; base = fit.base; bound = fit.bound }))
+    (λ t pri h. subst (ThreadFits setup) (sym h) (record { group = fit.group; base = fit.base; bound = fit.bound }))
 
 refreshed_flat : (setup : SetupParts) (s : Flat) (now : ℕ) → FlatFits setup s → FlatFits setup (refreshed (group_count setup) s now)
 refreshed_flat setup s now fit =
     flat_fits setup (refreshed (group_count setup) s now)
-        (refreshed_fits (group_count setup) s now (flat_parts setup s fit))
-        (subst (EachQueued (λ (e : Queued). ThreadFits setup e.facts)) (sym (refreshed_entries (group_count setup) s now))
-            (each_map (λ (e : Queued). ThreadFits setup e.facts) (λ (e : Queued). ThreadFits setup e.facts) (repriced s now) (repriced_fits setup s now) s.entries fit.threads))
+    (refreshed_fits (group_count setup) s now (flat_parts setup s fit))
+    (subst (EachQueued (λ (e : Queued). ThreadFits setup e.facts)) (sym (refreshed_entries (group_count setup) s now))
+    (each_map (λ (e : Queued). ThreadFits setup e.facts) (λ (e : Queued). ThreadFits setup e.facts) (repriced s now) (repriced_fits setup s now) s.entries fit.threads))
 
 refreshed_count : (groups : ℕ) (s : Flat) (now : ℕ) (p : ℕ → Bool) → queued_by p (refreshed groups s now) ≡ queued_by p s
 refreshed_count groups s now p =
     ap (count_by (λ (e : Queued). p e.facts.name)) (refreshed_entries groups s now)
-        ∙ sum_by_map (λ (e : Queued). cond (p e.facts.name) 1 0) (repriced s now) s.entries (λ e. ap (λ n. cond (p n) 1 0) (repriced_name s now e))
+    ∙ sum_by_map (λ (e : Queued). cond (p e.facts.name) 1 0) (repriced s now) s.entries (λ e. ap (λ n. cond (p n) 1 0) (repriced_name s now e))
 
 pub refresh_goes : (setup : SetupParts) (g : Game) (a c now : ℕ) → Sound setup g → a < actor_count setup → c < cluster_count setup → Goes setup g (leaving_hand g a (hand_at g a) c now (refresh_event setup now (flat_at g c))).game
 refresh_goes setup g a c now sound ain cin =
     leaving_goes setup g a c now (refresh_event setup now (flat_at g c)) sound ain cin
-        (refreshed_flat setup (flat_at g c) now (sound.flats c cin))
-        (refreshed_count (group_count setup) (flat_at g c) now)
+    (refreshed_flat setup (flat_at g c) now (sound.flats c cin))
+    (refreshed_count (group_count setup) (flat_at g c) now)
 
 pub look_goes : (setup : SetupParts) (g : Game) (a c now : ℕ) → Sound setup g → a < actor_count setup → c < cluster_count setup → (o : Option Facts) → Goes setup g (look_outcome setup g a (hand_at g a) c now o).game
 look_goes setup g a c now sound ain cin None = goes_nowhere setup g sound
 look_goes setup g a c now sound ain cin (Some t) =
     let e : Event = look_event setup c t.bucket now (flat_at g c) in
     goes_flat setup g a c (looked_hand (hand_at g a) c e.answer now) e.flat sound ain cin
-        (looked_fits setup (hand_at g a) c e.answer now (sound.hands a ain))
-        (touched_fits setup (flat_at g c) now (sound.flats c cin))
-        (λ p. refl)
+    (looked_fits setup (hand_at g a) c e.answer now (sound.hands a ain))
+    (touched_fits setup (flat_at g c) now (sound.flats c cin))
+    (λ p. refl)
 
 -- a step that changes no more than a hand
 hand_goes : (setup : SetupParts) (g : Game) (a : ℕ) (h : Hand) → Sound setup g → a < actor_count setup → HandFits setup h → ((p : ℕ → Bool) → held_by_test p h ≡ held_by_test p (hand_at g a)) → Goes setup g (with_hand a h g)
@@ -94,8 +94,8 @@ ran_goes setup g a us now sound ain None e = goes_nowhere setup g sound
 ran_goes setup g a us now sound ain (Some t) e =
     let u : Facts = charged us (rate_of setup (home_of setup a)) t in
     hand_goes setup g a (record (hand_at g a) { thread = Some u; last = now }) sound ain
-        (record {
-          thread = λ v h. subst (ThreadFits setup) (same_Some u v h) (charged_fits setup us (rate_of setup (home_of setup a)) t ((sound.hands a ain).thread t e));
-          looks = (sound.hands a ain).looks;
-        })
-        (λ p. ap {B = ℕ} (λ x. cond (passes p x) 1 0) (sym e))
+    (record {
+      thread = λ v h. subst (ThreadFits setup) (same_Some u v h) (charged_fits setup us (rate_of setup (home_of setup a)) t ((sound.hands a ain).thread t e));
+      looks = (sound.hands a ain).looks;
+    })
+    (λ p. ap {B = ℕ} (λ x. cond (passes p x) 1 0) (sym e))

@@ -1,35 +1,27 @@
 -- Each step at a cluster keeps its queue well-formed.
-use Rattle.std.proofs.Common.{◌≡◌, ℕ, ◌+◌, ◌*◌, ◌<◌, ◌≤◌, ◌==◌, Bool, true, false, not, ◌&&◌, cond, Contains, List, [], ◌∷◌, ◌++◌, filter, length, map, replicate, get_or, Option, Some, None, is_some, option_and_then, refl, sym, ap, ◌∙◌, subst, arith}
-use Rattle.std.proofs.lemmas.Bool.{and_from, cond_both, or_left, or_right}
-use Rattle.std.proofs.lemmas.List.{length-map, length-replicate, length_push}
+use Rattle.std.proofs.Common.{◌≡◌, ℕ, ◌≤◌, ◌==◌, Bool, true, false, not, ◌&&◌, cond, Contains, List, filter, length, Option, Some, None, option_and_then, refl, ap, ◌∙◌, arith}
+use Rattle.std.proofs.lemmas.Bool.{and_from, or_left, or_right}
 use Rattle.std.proofs.lemmas.List.Sums.{count_by-le-length, length-filter}
 use Rattle.std.proofs.lemmas.Option.{none-some, option_and_then_some}
-use Rattle.sched_base.specs.declared.Facts.{Facts}
 use Rattle.flat_policy.specs.declared.setup.Times.{Times}
-use Rattle.flat_policy.specs.ClusterSteps.{flat_after_offer, touched}
-use Rattle.flat_policy.specs.Laws.Kept.{StaysWellFormed}
-use Rattle.flat_policy.specs.Moves.{entered, goes_before, new_entry, pick, pick_in, removed, selected, selected_by, settled_thread, without}
-use Rattle.flat_policy.specs.Offer.{first_there, foreign_before, is_masked, mask_between, masked_before, may_take, offered, offered_between, offered_foreign, offered_masked, prefers}
-use Rattle.flat_policy.specs.Queue.{Clutch, Flat, Queued, clutch_place, empty_flat}
-use Rattle.flat_policy.specs.Refresh.{refreshed, repriced}
-use Rattle.flat_policy.specs.Setup.{SetupParts, cluster_times, group_count, migrates}
-use Rattle.flat_policy.specs.WellFormed.{TurnBelow, TurnsDiffer, WellFormed}
+use Rattle.flat_policy.specs.ClusterSteps.{flat_after_offer}
+use Rattle.flat_policy.specs.Moves.{goes_before, pick, pick_in, selected}
+use Rattle.flat_policy.specs.Offer.{first_there, foreign_before, is_masked, masked_before, may_take, offered, offered_foreign, offered_masked, prefers}
+use Rattle.flat_policy.specs.Queue.{Flat, Queued}
 use Rattle.flat_policy.specs.Windows.{Choice, chosen, expired, expired_window}
-use Rattle.flat_policy.proofs.After.{entered_entries, removed_entries, selected_by_entries, without_some}
+use Rattle.flat_policy.proofs.After.{removed_entries, selected_by_entries, without_some}
 use Rattle.flat_policy.proofs.Choice.{is_unpreceded}
-use Rattle.flat_policy.proofs.Enters.{entered_fits}
 use Rattle.flat_policy.proofs.KeptLanes.{expired_keeps, map_keeps_lanes}
 use Rattle.flat_policy.proofs.Leaves.{removed_fits}
 use Rattle.flat_policy.proofs.Members.{member_of_filter}
-use Rattle.flat_policy.proofs.Parts.{PartsOf, parts_of, well_formed_from}
-use Rattle.flat_policy.proofs.Refreshed.{refreshed_entries, refreshed_fits}
+use Rattle.flat_policy.proofs.Parts.{PartsOf}
 use Rattle.flat_policy.proofs.Refreshes.{selected_by_fits}
 
 -- the pick stands in the queue, and there is none without a choice
 pub pick_stands : (ts : List Times) (now : ℕ) (s : Flat) (e : Queued) → pick ts now s ≡ Some e → Contains s.entries e
 pick_stands ts now s e h =
     option_and_then_some (λ (c : Choice). pick_in (expired ts s now) c.lane) (chosen ts (expired ts s now)) e h
-        (λ c is at. (is_unpreceded (goes_before (expired ts s now) c.lane) s.entries e at).member)
+    (λ c is at. (is_unpreceded (goes_before (expired ts s now) c.lane) s.entries e at).member)
 
 pub no_pick : (ts : List Times) (now : ℕ) (s : Flat) → chosen ts (expired ts s now) ≡ None → pick ts now s ≡ None
 no_pick ts now s h = ap (option_and_then (λ (c : Choice). pick_in (expired ts s now) c.lane)) h
@@ -56,13 +48,13 @@ cond_then false o x h = absurd (none-some x h)
 pub offered_stands : (to : ℕ) (migrate : Bool) (mask : ℕ) (s : Flat) (e : Queued) → offered to migrate mask s ≡ Some e → Contains s.entries e × (may_take to migrate mask e.facts ≡ true)
 offered_stands to migrate mask s e h =
     first_of_two (cond migrate (offered_foreign to s) None) (offered_masked mask s) e (Contains s.entries e × (may_take to migrate mask e.facts ≡ true)) h
-        (λ f. let both = cond_then migrate (offered_foreign to s) e f in
-            let among = (is_unpreceded foreign_before (filter (λ (q : Queued). prefers to q.facts) s.entries) e both.1).member in
-            let m = member_of_filter (λ (q : Queued). prefers to q.facts) s.entries e among in
-            (m.0, or_left (migrate && prefers to e.facts) (is_masked mask e.facts) (and_from migrate (prefers to e.facts) both.0 m.1)))
-        (λ f. let among = (is_unpreceded (masked_before s) (filter (λ (q : Queued). is_masked mask q.facts) s.entries) e f).member in
-            let m = member_of_filter (λ (q : Queued). is_masked mask q.facts) s.entries e among in
-            (m.0, or_right (migrate && prefers to e.facts) (is_masked mask e.facts) m.1))
+    (λ f. let both = cond_then migrate (offered_foreign to s) e f in
+    let among = (is_unpreceded foreign_before (filter (λ (q : Queued). prefers to q.facts) s.entries) e both.1).member in
+    let m = member_of_filter (λ (q : Queued). prefers to q.facts) s.entries e among in
+    (m.0, or_left (migrate && prefers to e.facts) (is_masked mask e.facts) (and_from migrate (prefers to e.facts) both.0 m.1)))
+    (λ f. let among = (is_unpreceded (masked_before s) (filter (λ (q : Queued). is_masked mask q.facts) s.entries) e f).member in
+    let m = member_of_filter (λ (q : Queued). is_masked mask q.facts) s.entries e among in
+    (m.0, or_right (migrate && prefers to e.facts) (is_masked mask e.facts) m.1))
 
 pub expired_parts : (groups : ℕ) (ts : List Times) (s : Flat) (now : ℕ) → PartsOf groups s → PartsOf groups (expired ts s now)
 expired_parts groups ts s now p = record {

@@ -1,11 +1,11 @@
 -- What changes lanes leaves each in its place.
-use Rattle.std.proofs.Common.{◌≡◌, ℕ, Bool, true, false, cond, List, [], ◌∷◌, map, refl, sym, ap, ◌∙◌, inl, inr, arith}
-use Rattle.std.proofs.lemmas.Bool.{cases_Bool, cond_both}
+use Rattle.std.proofs.Common.{◌≡◌, ℕ, cond, List, [], ◌∷◌, map, refl, ◌∙◌}
+use Rattle.std.proofs.lemmas.Bool.{cond_both}
 use Rattle.bucket_tables.specs.declared.Lane.{Lane}
 use Rattle.flat_policy.specs.declared.lanes.Kind.{Kind}
 use Rattle.flat_policy.specs.declared.lanes.Kind.TheVariants.{Natural, Pass, Starve}
 use Rattle.flat_policy.specs.declared.setup.Times.{Times}
-use Rattle.flat_policy.specs.Queue.{Flat, LaneWindow, same_lane, timeshare_lanes}
+use Rattle.flat_policy.specs.Queue.{Flat, LaneWindow, same_lane}
 use Rattle.flat_policy.specs.Setup.{times_for}
 use Rattle.flat_policy.specs.WellFormed.{WellFormed}
 use Rattle.flat_policy.specs.Windows.{at_lane, expired, expired_warp, expired_window, renewed_deadline, window_after, window_over}
@@ -21,12 +21,12 @@ pub expired_keeps : (ts : List Times) (now : ℕ) (l : LaneWindow) → (expired_
 expired_keeps ts now l =
     let warped : LaneWindow = record l { warp = expired_warp now l.warp } in
     cond_both (window_over (times_for ts l.lane.bucket).quantum now l.starved) (renewed_deadline ts now warped) warped
-        (λ (m : LaneWindow). m.lane ≡ l.lane) (λ e. refl) (λ e. refl)
+    (λ (m : LaneWindow). m.lane ≡ l.lane) (λ e. refl) (λ e. refl)
 
 pub at_lane_keeps : (at : Lane) (f : LaneWindow → LaneWindow) → ((l : LaneWindow) → (f l).lane ≡ l.lane) → (ls : List LaneWindow) → lane_names (at_lane at f ls) ≡ lane_names ls
 at_lane_keeps at f h ls =
     map_keeps_lanes (λ (l : LaneWindow). cond (same_lane l.lane at) (f l) l)
-        (λ l. cond_both (same_lane l.lane at) (f l) l (λ (m : LaneWindow). m.lane ≡ l.lane) (λ e. h l) (λ e. refl)) ls
+    (λ l. cond_both (same_lane l.lane at) (f l) l (λ (m : LaneWindow). m.lane ≡ l.lane) (λ e. h l) (λ e. refl)) ls
 
 pub window_keeps : (ts : List Times) (now : ℕ) (kind : Kind) (l : LaneWindow) → (window_after ts now kind l).lane ≡ l.lane
 window_keeps ts now Pass l = refl

@@ -1,14 +1,14 @@
 -- Tests that go by a number first and by another test where the numbers are the same; and the order of whole numbers.
 use Rattle.std.proofs.Common.{◌≡◌, ◌⊎◌, ℕ, ◌<◌, Bool, true, false, ◌||◌, ◌&&◌, ◌==◌, nat_lt, ℤ, pos, negsuc, int_lt, refl, sym, ap, ◌∙◌, inl, inr, arith}
-use Rattle.std.proofs.lemmas.Bool.{and_from, and_parts, and_left, and_right, false_from_ne_true, false≢true, or_cases, or_from, or_left, or_parts, or_right, cases_Bool}
+use Rattle.std.proofs.lemmas.Bool.{and_from, and_parts, and_right, false_from_ne_true, false≢true, or_cases, or_from, or_left, or_parts, or_right}
 use Rattle.std.proofs.Common.{eq-eqb, eqb-true, le-ltb, lt-ltb, ltb-false, ltb-true}
 
 -- such a test, less first, and what it says
 rises : (a b : ℕ) (p : Bool) → (nat_lt a b || ((a == b) && p)) ≡ true → (a < b) ⊎ ((a ≡ b) × (p ≡ true))
 rises a b p h =
     elim (or_cases (nat_lt a b) ((a == b) && p) h) [
-      inl l ↦ inl (ltb-true a b l)
-    | inr e ↦ (let both = and_parts (a == b) p e in inr (eqb-true a b both.0, both.1))
+      | inl l ↦ inl (ltb-true a b l)
+      | inr e ↦ (let both = and_parts (a == b) p e in inr (eqb-true a b both.0, both.1))
     ]
 
 rises_by_less : (a b : ℕ) (p : Bool) → a < b → (nat_lt a b || ((a == b) && p)) ≡ true
@@ -21,8 +21,8 @@ rises_by_same a b p e t = or_right (nat_lt a b) ((a == b) && p) (and_from (a == 
 falls : (a b : ℕ) (p : Bool) → (nat_lt b a || ((a == b) && p)) ≡ true → (b < a) ⊎ ((a ≡ b) × (p ≡ true))
 falls a b p h =
     elim (or_cases (nat_lt b a) ((a == b) && p) h) [
-      inl l ↦ inl (ltb-true b a l)
-    | inr e ↦ (let both = and_parts (a == b) p e in inr (eqb-true a b both.0, both.1))
+      | inl l ↦ inl (ltb-true b a l)
+      | inr e ↦ (let both = and_parts (a == b) p e in inr (eqb-true a b both.0, both.1))
     ]
 
 falls_by_less : (a b : ℕ) (p : Bool) → b < a → (nat_lt b a || ((a == b) && p)) ≡ true
@@ -38,28 +38,28 @@ pub rises_transitive : (a b c : ℕ) (p q r : Bool) → (a ≡ b → b ≡ c →
     → (nat_lt a b || ((a == b) && p)) ≡ true → (nat_lt b c || ((b == c) && q)) ≡ true → (nat_lt a c || ((a == c) && r)) ≡ true
 rises_transitive a b c p q r on h k =
     elim (rises a b p h) [
-      inl l ↦ elim (rises b c q k) [
-          inl m ↦ rises_by_less a c r (omega arith)
+      | inl l ↦ elim (rises b c q k) [
+        | inl m ↦ rises_by_less a c r (omega arith)
         | inr m ↦ rises_by_less a c r (omega (arith, m.0))
-        ]
-    | inr l ↦ elim (rises b c q k) [
-          inl m ↦ rises_by_less a c r (omega (arith, l.0))
+      ]
+      | inr l ↦ elim (rises b c q k) [
+        | inl m ↦ rises_by_less a c r (omega (arith, l.0))
         | inr m ↦ rises_by_same a c r (l.0 ∙ m.0) (on l.0 m.0 l.1 m.1)
-        ]
+      ]
     ]
 
 pub falls_transitive : (a b c : ℕ) (p q r : Bool) → (a ≡ b → b ≡ c → p ≡ true → q ≡ true → r ≡ true)
     → (nat_lt b a || ((a == b) && p)) ≡ true → (nat_lt c b || ((b == c) && q)) ≡ true → (nat_lt c a || ((a == c) && r)) ≡ true
 falls_transitive a b c p q r on h k =
     elim (falls a b p h) [
-      inl l ↦ elim (falls b c q k) [
-          inl m ↦ falls_by_less a c r (omega arith)
+      | inl l ↦ elim (falls b c q k) [
+        | inl m ↦ falls_by_less a c r (omega arith)
         | inr m ↦ falls_by_less a c r (omega (arith, m.0))
-        ]
-    | inr l ↦ elim (falls b c q k) [
-          inl m ↦ falls_by_less a c r (omega (arith, l.0))
+      ]
+      | inr l ↦ elim (falls b c q k) [
+        | inl m ↦ falls_by_less a c r (omega (arith, l.0))
         | inr m ↦ falls_by_same a c r (l.0 ∙ m.0) (on l.0 m.0 l.1 m.1)
-        ]
+      ]
     ]
 
 -- where neither goes before the other, the numbers are the same, and the other test says neither
@@ -68,20 +68,22 @@ pub rises_total : (a b : ℕ) (p q : Bool) → (nat_lt a b || ((a == b) && p)) �
 rises_total a b p q h k =
     let hs = or_parts (nat_lt a b) ((a == b) && p) h in
     let ks = or_parts (nat_lt b a) ((b == a) && q) k in
-    let same : a ≡ b = omega (arith, ltb-false a b hs.0, ltb-false b a ks.0) in
-    (same,
-     false_from_ne_true p (λ t. false≢true (sym hs.1 ∙ and_from (a == b) p (eq-eqb a b same) t)),
-     false_from_ne_true q (λ t. false≢true (sym ks.1 ∙ and_from (b == a) q (eq-eqb b a (sym same)) t)))
+    let same : a ≡ b = omega (arith, ltb-false a b hs.0, ltb-false b a ks.0) in (
+      same,
+      false_from_ne_true p (λ t. false≢true (sym hs.1 ∙ and_from (a == b) p (eq-eqb a b same) t)),
+      false_from_ne_true q (λ t. false≢true (sym ks.1 ∙ and_from (b == a) q (eq-eqb b a (sym same)) t)),
+    )
 
 pub falls_total : (a b : ℕ) (p q : Bool) → (nat_lt b a || ((a == b) && p)) ≡ false → (nat_lt a b || ((b == a) && q)) ≡ false
     → (a ≡ b) × (p ≡ false) × (q ≡ false)
 falls_total a b p q h k =
     let hs = or_parts (nat_lt b a) ((a == b) && p) h in
     let ks = or_parts (nat_lt a b) ((b == a) && q) k in
-    let same : a ≡ b = omega (arith, ltb-false b a hs.0, ltb-false a b ks.0) in
-    (same,
-     false_from_ne_true p (λ t. false≢true (sym hs.1 ∙ and_from (a == b) p (eq-eqb a b same) t)),
-     false_from_ne_true q (λ t. false≢true (sym ks.1 ∙ and_from (b == a) q (eq-eqb b a (sym same)) t)))
+    let same : a ≡ b = omega (arith, ltb-false b a hs.0, ltb-false a b ks.0) in (
+      same,
+      false_from_ne_true p (λ t. false≢true (sym hs.1 ∙ and_from (a == b) p (eq-eqb a b same) t)),
+      false_from_ne_true q (λ t. false≢true (sym ks.1 ∙ and_from (b == a) q (eq-eqb b a (sym same)) t)),
+    )
 
 -- the order of whole numbers
 pub int_irreflexive : (x : ℤ) → int_lt x x ≡ false

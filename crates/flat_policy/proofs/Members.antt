@@ -1,5 +1,5 @@
 -- Members of lists: by cases, through filters, and what tests find.
-use Rattle.std.proofs.Common.{◌≡◌, ◌⊎◌, ℕ, zero, suc, Bool, true, false, not, ◌||◌, List, [], ◌∷◌, ◌++◌, length, Option, Some, None, is_some, Contains, All, filter, find, cond, refl, sym, ap, ◌∙◌, subst, inl, inr, arith}
+use Rattle.std.proofs.Common.{◌≡◌, ◌⊎◌, zero, suc, Bool, true, false, List, [], ◌∷◌, Some, Contains, All, filter, find, refl, sym, ap, ◌∙◌, subst, inl, inr, arith}
 use Rattle.std.specs.List.{list_any}
 use Rattle.std.proofs.lemmas.Bool.{cases_Bool, false≢true, or_left, or_right, or_cases, or_parts, or_from, cond-true, cond-false}
 use Rattle.std.proofs.lemmas.List.Elements.{Contains-get_or}
@@ -25,24 +25,24 @@ pub any_from_member : {X : Type 0} (p : X → Bool) (xs : List X) (x : X) → Co
 any_from_member p [] x c h = absurd (contains_none x c)
 any_from_member p (y ∷ ys) x c h =
     elim (contains_cases y ys x c) [
-      inl e ↦ or_left (p y) (list_any p ys) (ap p e ∙ h)
-    | inr d ↦ or_right (p y) (list_any p ys) (any_from_member p ys x d h)
+      | inl e ↦ or_left (p y) (list_any p ys) (ap p e ∙ h)
+      | inr d ↦ or_right (p y) (list_any p ys) (any_from_member p ys x d h)
     ]
 
 pub member_from_any : {X : Type 0} (p : X → Bool) (xs : List X) → list_any p xs ≡ true → (x : X) × Contains xs x × (p x ≡ true)
 member_from_any p [] h = absurd (false≢true h)
 member_from_any p (y ∷ ys) h =
     elim (or_cases (p y) (list_any p ys) h) [
-      inl e ↦ (y, contains_here y ys, e)
-    | inr e ↦ (let m = member_from_any p ys e in (m.0, contains_later y ys m.0 m.1, m.2))
+      | inl e ↦ (y, contains_here y ys, e)
+      | inr e ↦ (let m = member_from_any p ys e in (m.0, contains_later y ys m.0 m.1, m.2))
     ]
 
 pub each_from_none : {X : Type 0} (p : X → Bool) (xs : List X) → list_any p xs ≡ false → (x : X) → Contains xs x → p x ≡ false
 each_from_none p [] h x c = absurd (contains_none x c)
 each_from_none p (y ∷ ys) h x c =
     elim (contains_cases y ys x c) [
-      inl e ↦ ap p (sym e) ∙ (or_parts (p y) (list_any p ys) h).0
-    | inr d ↦ each_from_none p ys (or_parts (p y) (list_any p ys) h).1 x d
+      | inl e ↦ ap p (sym e) ∙ (or_parts (p y) (list_any p ys) h).0
+      | inr d ↦ each_from_none p ys (or_parts (p y) (list_any p ys) h).1 x d
     ]
 
 pub none_from_each : {X : Type 0} (p : X → Bool) (xs : List X) → ((x : X) → Contains xs x → p x ≡ false) → list_any p xs ≡ false
@@ -55,20 +55,20 @@ pub find_finds : {X : Type 0} (p : X → Bool) (xs : List X) (x : X) → find p 
 find_finds p [] x h = grind arith
 find_finds p (y ∷ ys) x h =
     elim (cases_Bool (p y)) [
-      inl e ↦ (let same : y ≡ x = grind (arith, sym (cond-true (p y) (Some y) (find p ys) e) ∙ h) in
+      | inl e ↦ (let same : y ≡ x = grind (arith, sym (cond-true (p y) (Some y) (find p ys) e) ∙ h) in
           (subst (λ z. Contains (y ∷ ys) z) same (contains_here y ys), ap p (sym same) ∙ e))
-    | inr e ↦ (let m = find_finds p ys x (sym (cond-false (p y) (Some y) (find p ys) e) ∙ h) in (contains_later y ys x m.0, m.1))
+      | inr e ↦ (let m = find_finds p ys x (sym (cond-false (p y) (Some y) (find p ys) e) ∙ h) in (contains_later y ys x m.0, m.1))
     ]
 
 pub finds_from_member : {X : Type 0} (p : X → Bool) (xs : List X) (x : X) → Contains xs x → p x ≡ true → (y : X) × (find p xs ≡ Some y)
 finds_from_member p [] x c h = absurd (contains_none x c)
 finds_from_member p (y ∷ ys) x c h =
     elim (cases_Bool (p y)) [
-      inl e ↦ (y, cond-true (p y) (Some y) (find p ys) e)
-    | inr e ↦ elim (contains_cases y ys x c) [
-          inl is ↦ absurd (false≢true (sym e ∙ (ap p is ∙ h)))
+      | inl e ↦ (y, cond-true (p y) (Some y) (find p ys) e)
+      | inr e ↦ elim (contains_cases y ys x c) [
+        | inl is ↦ absurd (false≢true (sym e ∙ (ap p is ∙ h)))
         | inr d ↦ (let m = finds_from_member p ys x d h in (m.0, cond-false (p y) (Some y) (find p ys) e ∙ m.1))
-        ]
+      ]
     ]
 
 -- the members of a filter
@@ -76,11 +76,11 @@ pub member_of_filter : {X : Type 0} (p : X → Bool) (xs : List X) (x : X) → C
 member_of_filter p [] x c = absurd (contains_none x c)
 member_of_filter p (y ∷ ys) x c =
     elim (cases_Bool (p y)) [
-      inl e ↦ elim (contains_cases y (filter p ys) x (subst (λ zs. Contains zs x) (cond-true (p y) (y ∷ filter p ys) (filter p ys) e) c)) [
-          inl is ↦ (subst (λ z. Contains (y ∷ ys) z) is (contains_here y ys), ap p (sym is) ∙ e)
+      | inl e ↦ elim (contains_cases y (filter p ys) x (subst (λ zs. Contains zs x) (cond-true (p y) (y ∷ filter p ys) (filter p ys) e) c)) [
+        | inl is ↦ (subst (λ z. Contains (y ∷ ys) z) is (contains_here y ys), ap p (sym is) ∙ e)
         | inr d ↦ (let m = member_of_filter p ys x d in (contains_later y ys x m.0, m.1))
-        ]
-    | inr e ↦ (let m = member_of_filter p ys x (subst (λ zs. Contains zs x) (cond-false (p y) (y ∷ filter p ys) (filter p ys) e) c) in
+      ]
+      | inr e ↦ (let m = member_of_filter p ys x (subst (λ zs. Contains zs x) (cond-false (p y) (y ∷ filter p ys) (filter p ys) e) c) in
           (contains_later y ys x m.0, m.1))
     ]
 
@@ -88,14 +88,14 @@ pub filter_has : {X : Type 0} (p : X → Bool) (xs : List X) (x : X) → Contain
 filter_has p [] x c h = absurd (contains_none x c)
 filter_has p (y ∷ ys) x c h =
     elim (cases_Bool (p y)) [
-      inl e ↦ subst (λ zs. Contains zs x) (sym (cond-true (p y) (y ∷ filter p ys) (filter p ys) e))
+      | inl e ↦ subst (λ zs. Contains zs x) (sym (cond-true (p y) (y ∷ filter p ys) (filter p ys) e))
           (elim (contains_cases y ys x c) [
-            inl is ↦ subst (λ z. Contains (y ∷ filter p ys) z) is (contains_here y (filter p ys))
-          | inr d ↦ contains_later y (filter p ys) x (filter_has p ys x d h)
+            | inl is ↦ subst (λ z. Contains (y ∷ filter p ys) z) is (contains_here y (filter p ys))
+            | inr d ↦ contains_later y (filter p ys) x (filter_has p ys x d h)
           ])
-    | inr e ↦ subst (λ zs. Contains zs x) (sym (cond-false (p y) (y ∷ filter p ys) (filter p ys) e))
+      | inr e ↦ subst (λ zs. Contains zs x) (sym (cond-false (p y) (y ∷ filter p ys) (filter p ys) e))
           (elim (contains_cases y ys x c) [
-            inl is ↦ absurd (false≢true (sym e ∙ (ap p is ∙ h)))
-          | inr d ↦ filter_has p ys x d h
+            | inl is ↦ absurd (false≢true (sym e ∙ (ap p is ∙ h)))
+            | inr d ↦ filter_has p ys x d h
           ])
     ]

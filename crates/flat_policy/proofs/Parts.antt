@@ -1,5 +1,5 @@
 -- The parts of a well-formed queue, for any number of entries, and how a list of entries keeps them.
-use Rattle.std.proofs.Common.{◌≡◌, ◌≢◌, ◌⊎◌, ℕ, ◌+◌, ◌*◌, ◌<◌, ◌≤◌, Bool, true, false, cond, Contains, List, [], ◌∷◌, ◌++◌, filter, length, map, Option, None, is_some, get_or, refl, sym, ap, ◌∙◌, subst, inl, inr, pos, negsuc, arith}
+use Rattle.std.proofs.Common.{◌≡◌, ◌≢◌, ℕ, ◌+◌, ◌*◌, ◌<◌, ◌≤◌, Bool, List, [], ◌∷◌, ◌++◌, filter, length, map, Option, None, is_some, get_or, sym, ap, ◌∙◌, subst, inl, inr, pos, negsuc, arith}
 use Rattle.std.specs.List.{list_any}
 use Rattle.std.proofs.lemmas.Bool.{cases_Bool, cond-true, cond-false}
 use Rattle.std.proofs.lemmas.List.Elements.{Contains-push_cases}
@@ -8,7 +8,7 @@ use Rattle.flat_policy.specs.Usage.{Spans}
 use Rattle.flat_policy.specs.WellFormed.{ArrivalsRise, EachQueued, HasOrderNumber, TurnBelow, TurnsDiffer, WellFormed, WellFormedWithin}
 use Rattle.flat_policy.proofs.Entries.{each_from_members, each_member}
 use Rattle.flat_policy.proofs.KeptLanes.{lane_names}
-use Rattle.flat_policy.proofs.Members.{contains_cases, contains_here, contains_later, member_of_filter}
+use Rattle.flat_policy.proofs.Members.{member_of_filter}
 
 -- the entries of a queue with so many groups, all arrived before the next
 pub record EntriesFit (groups next : ℕ) (es : List Queued) : Type 0 where
@@ -85,17 +85,17 @@ each_weaker P Q es h each = each_from_members Q es (λ e c. h e (each_member P e
 
 pub each_push : (P : Queued → Type 0) (es : List Queued) (e : Queued) → EachQueued P es → P e → EachQueued P (es ++ e ∷ [])
 each_push P es e each p = each_from_members P (es ++ e ∷ []) (λ f c. elim (Contains-push_cases es e f c) [
-    inl d ↦ each_member P es each f d
+  | inl d ↦ each_member P es each f d
   | inr is ↦ subst P is p
-  ])
+])
 
 rise_filter : (p : Queued → Bool) (es : List Queued) → ArrivalsRise es → ArrivalsRise (filter p es)
 rise_filter p [] rise = tt
 rise_filter p (e ∷ es) rise =
     elim (cases_Bool (p e)) [
-      inl h ↦ subst ArrivalsRise (sym (cond-true (p e) (e ∷ filter p es) (filter p es) h))
+      | inl h ↦ subst ArrivalsRise (sym (cond-true (p e) (e ∷ filter p es) (filter p es) h))
           (each_filter (λ (f : Queued). e.arrival < f.arrival) p es rise.0, rise_filter p es rise.1)
-    | inr h ↦ subst ArrivalsRise (sym (cond-false (p e) (e ∷ filter p es) (filter p es) h)) (rise_filter p es rise.1)
+      | inr h ↦ subst ArrivalsRise (sym (cond-false (p e) (e ∷ filter p es) (filter p es) h)) (rise_filter p es rise.1)
     ]
 
 rise_push : (es : List Queued) (e : Queued) → ArrivalsRise es → EachQueued (λ (f : Queued). f.arrival < e.arrival) es → ArrivalsRise (es ++ e ∷ [])
@@ -132,9 +132,10 @@ each_map P Q f h (e ∷ es) each = (h e each.0, each_map P Q f h es each.1)
 
 rise_map : (f : Queued → Queued) → KeepsPlace f → (es : List Queued) → ArrivalsRise es → ArrivalsRise (map f es)
 rise_map f k [] rise = tt
-rise_map f k (e ∷ es) rise =
-    (each_map (λ (g : Queued). e.arrival < g.arrival) (λ (g : Queued). (f e).arrival < g.arrival) f (λ g h. omega (arith, h, k.arrival e, k.arrival g)) es rise.0,
-     rise_map f k es rise.1)
+rise_map f k (e ∷ es) rise = (
+  each_map (λ (g : Queued). e.arrival < g.arrival) (λ (g : Queued). (f e).arrival < g.arrival) f (λ g h. omega (arith, h, k.arrival e, k.arrival g)) es rise.0,
+  rise_map f k es rise.1,
+)
 
 order_kept : (f : Queued → Queued) → KeepsPlace f → (e : Queued) → HasOrderNumber e → HasOrderNumber (f e)
 order_kept f k e (inl h) = inl (k.order e ∙ (h ∙ ap pos (sym (k.arrival e))))

@@ -1,10 +1,9 @@
 -- There is one pick where there are entries, and none where there are none.
-use Rattle.std.proofs.Common.{◌≡◌, ◌↔◌, ℕ, Bool, true, false, Contains, List, Option, Some, None, is_some, option_and_then, refl, sym, ap, ◌∙◌, subst, arith}
+use Rattle.std.proofs.Common.{◌≡◌, ℕ, true, List, Option, Some, None, is_some, option_and_then, refl, sym, ap, ◌∙◌, subst}
 use Rattle.std.proofs.lemmas.Bool.{false≢true}
 use Rattle.std.proofs.lemmas.Option.{same_Some, option_and_then_some}
 use Rattle.bucket_tables.specs.declared.Lane.{Lane}
 use Rattle.flat_policy.specs.declared.setup.Times.{Times}
-use Rattle.flat_policy.specs.Laws.Choice.{has_member}
 use Rattle.flat_policy.specs.Laws.Picks.{ChoosesFilled, IsPick, PicksOne}
 use Rattle.flat_policy.specs.Moves.{goes_before, pick, pick_in}
 use Rattle.flat_policy.specs.Queue.{Flat, Queued, has_entries, in_lane, lane_entries}
@@ -30,21 +29,21 @@ pick_in_there groups s w at h =
     let has = has_from_member (lane_entries s at) m.0 (filter_has (in_lane at) s.entries m.0 m.1 m.2) in
     let order = goes_order groups s w at in
     let best = some_of (unpreceded (goes_before s at) (lane_entries s at))
-        (there_under_strict (goes_before s at) (lane_entries s at) (strict_from_order (goes_before s at) (lane_entries s at) order) ∙ has) in
+    (there_under_strict (goes_before s at) (lane_entries s at) (strict_from_order (goes_before s at) (lane_entries s at) order) ∙ has) in
     chosen_from_unpreceded (goes_before s at) s.entries best.0
-        (first_of_lane s at best.0 (is_unpreceded (goes_before s at) (lane_entries s at) best.0 best.1))
+    (first_of_lane s at best.0 (is_unpreceded (goes_before s at) (lane_entries s at) best.0 best.1))
 
 -- what is picked is the pick, as long as the chosen lane has entries
 pub to_pick : (ts : List Times) (now : ℕ) (s : Flat) → ChoosesFilled ts (expired ts s now) → (e : Queued) → pick ts now s ≡ Some e → IsPick ts now s e
 to_pick ts now s filled e h =
     option_and_then_some (λ (c : Choice). pick_in (expired ts s now) c.lane) (chosen ts (expired ts s now)) e h (λ c is at.
-        let first = is_unpreceded (goes_before (expired ts s now) c.lane) s.entries e at in
-        record {
-          choice = c;
-          is_chosen = is;
-          in_chosen = stands_in_lane (expired ts s now) c.lane e (filled.filled c is) first;
-          first = first;
-        })
+    let first = is_unpreceded (goes_before (expired ts s now) c.lane) s.entries e at in
+    record {
+      choice = c;
+      is_chosen = is;
+      in_chosen = stands_in_lane (expired ts s now) c.lane e (filled.filled c is) first;
+      first = first;
+    })
 
 one_pick : (groups : ℕ) (ts : List Times) (now : ℕ) (s : Flat) → WellFormed groups (expired ts s now) → (e f : Queued) → IsPick ts now s e → IsPick ts now s f → e ≡ f
 one_pick groups ts now s w e f p q =
@@ -52,10 +51,10 @@ one_pick groups ts now s w e f p q =
     let x = expired ts s now in
     let at = p.choice.lane in
     only_one (goes_before x at) (lane_entries x at) (goes_order groups x w at) e f
-        (first_in_lane x at e p.in_chosen p.first)
-        (first_in_lane x at f
-            (subst (λ (c : Choice). in_lane c.lane f ≡ true) same q.in_chosen)
-            (subst (λ (c : Choice). IsUnpreceded (goes_before x c.lane) s.entries f) same q.first))
+    (first_in_lane x at e p.in_chosen p.first)
+    (first_in_lane x at f
+    (subst (λ (c : Choice). in_lane c.lane f ≡ true) same q.in_chosen)
+    (subst (λ (c : Choice). IsUnpreceded (goes_before x c.lane) s.entries f) same q.first))
 
 from_pick : (groups : ℕ) (ts : List Times) (now : ℕ) (s : Flat) → WellFormed groups (expired ts s now) → ChoosesFilled ts (expired ts s now) → (e : Queued) → IsPick ts now s e → pick ts now s ≡ Some e
 from_pick groups ts now s w filled e p =

@@ -1,27 +1,22 @@
 -- Selecting from a queue and refreshing it keep it well-formed.
-use Rattle.std.proofs.Common.{◌≡◌, ◌≢◌, ◌⊎◌, ℕ, suc, zero, ◌+◌, ◌*◌, ◌<◌, ◌≤◌, ◌==◌, Bool, true, false, not, ◌||◌, cond, Contains, List, [], ◌∷◌, ◌++◌, filter, fold, flat_map, length, map, Option, Some, None, is_some, refl, sym, ap, ap₂, ◌∙◌, subst, inl, inr, arith, eq-eqb, eqb-true}
-use Rattle.std.specs.List.{list_any}
-use Rattle.std.proofs.lemmas.Bool.{cases_Bool, cond_both, cond-true, cond-false, false≢true, true_from_ne_false}
+use Rattle.std.proofs.Common.{◌≡◌, ℕ, suc, zero, ◌+◌, ◌<◌, Contains, List, [], ◌∷◌, fold, flat_map, length, Option, Some, None, refl, ap, ◌∙◌, inl, inr, arith}
+use Rattle.std.proofs.lemmas.Bool.{cond_both}
 use Rattle.std.proofs.lemmas.List.Elements.{Contains-append_cases}
-use Rattle.sched_base.specs.declared.Bucket.{Bucket}
 use Rattle.sched_base.specs.declared.Facts.{Facts}
 use Rattle.bucket_tables.specs.declared.Lane.{Lane}
 use Rattle.flat_policy.specs.declared.lanes.Kind.{Kind}
 use Rattle.flat_policy.specs.declared.setup.Times.{Times}
-use Rattle.flat_policy.specs.Moves.{pick, removed_by_selection, selected, selected_by, with_next_turn}
-use Rattle.flat_policy.specs.Precedence.{clutch_priority, greatest_pri}
-use Rattle.flat_policy.specs.Queue.{Clutch, Flat, LaneWindow, Queued, clutch_entries, clutch_place, in_clutch, no_spans, spans_of, unit_entries}
-use Rattle.flat_policy.specs.Refresh.{all_clutches, clutches_of, is_ui, refreshed, repriced, turn_on_refresh, with_new_prices}
+use Rattle.flat_policy.specs.Moves.{removed_by_selection, selected_by}
+use Rattle.flat_policy.specs.Queue.{Clutch, Flat, Queued, unit_entries}
+use Rattle.flat_policy.specs.Refresh.{all_clutches, clutches_of, is_ui, repriced}
 use Rattle.flat_policy.specs.Setup.{all_buckets, numbers_below, numbers_from}
-use Rattle.flat_policy.specs.Usage.{Spans, decay, priority, score}
-use Rattle.flat_policy.specs.Windows.{Choice, at_lane, window_after, windows_after}
+use Rattle.flat_policy.specs.Usage.{decay, priority}
+use Rattle.flat_policy.specs.Windows.{Choice, window_after, windows_after}
 use Rattle.flat_policy.proofs.Chosen.{member_of_map}
-use Rattle.flat_policy.proofs.Greatest.{filter_none}
 use Rattle.flat_policy.proofs.KeptLanes.{at_lane_keeps, window_keeps}
 use Rattle.flat_policy.proofs.Leaves.{removed_by_selection_fits}
 use Rattle.flat_policy.proofs.Members.{contains_cases, contains_here, contains_later, contains_none}
-use Rattle.flat_policy.proofs.Parts.{KeepsPlace, Parts, PartsOf, map_fits}
-use Rattle.flat_policy.proofs.Wholes.{but_one, whole_with_next}
+use Rattle.flat_policy.proofs.Parts.{KeepsPlace, PartsOf}
 
 -- the windows of a choice change no more than the lanes' times
 windows_fit : (groups : ℕ) (ts : List Times) (now : ℕ) (kind : Option Kind) (at : Lane) (s : Flat) → PartsOf groups s → PartsOf groups (windows_after ts now kind at s)
@@ -50,8 +45,8 @@ member_of_flat_map : {X Y : Type 0} (f : X → List Y) (xs : List X) (y : Y) →
 member_of_flat_map f [] y c = absurd (contains_none y c)
 member_of_flat_map f (x ∷ xs) y c =
     elim (Contains-append_cases (f x) (flat_map f xs) y c) [
-      inl d ↦ (x, d)
-    | inr d ↦ member_of_flat_map f xs y d
+      | inl d ↦ (x, d)
+      | inr d ↦ member_of_flat_map f xs y d
     ]
 
 -- the clutch buckets that a refresh passes are those of its groups
@@ -59,8 +54,8 @@ pub number_below : (first count n : ℕ) → Contains (numbers_from first count)
 number_below first zero n c = absurd (contains_none n c)
 number_below first (suc count) n c =
     elim (contains_cases first (numbers_from (suc first) count) n c) [
-      inl is ↦ omega (arith, is)
-    | inr d ↦ omega (arith, number_below (suc first) count n d)
+      | inl is ↦ omega (arith, is)
+      | inr d ↦ omega (arith, number_below (suc first) count n d)
     ]
 
 pub clutch_grouped : (groups : ℕ) (k : Clutch) → Contains (all_clutches groups) k → k.group < groups
@@ -76,7 +71,7 @@ pub repriced_facts : (s : Flat) (now : ℕ) (e : Queued) → (P : Queued → Typ
 repriced_facts s now e P same other =
     let t : Facts = record e.facts { usage = decay e.facts.usage e.facts.seen now; seen = now } in
     cond_both (is_ui e.facts.bucket) e (record e { facts = t; pri = priority t.base t.bucket t.usage (length (unit_entries s e.facts)) }) P
-        (λ h. same) (λ h. other t (priority t.base t.bucket t.usage (length (unit_entries s e.facts))) refl)
+    (λ h. same) (λ h. other t (priority t.base t.bucket t.usage (length (unit_entries s e.facts))) refl)
 
 pub repriced_keeps : (s : Flat) (now : ℕ) → KeepsPlace (repriced s now)
 repriced_keeps s now = record {

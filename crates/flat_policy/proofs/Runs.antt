@@ -1,5 +1,5 @@
 -- Whole runs: sound states, each name in one place, and no more threads than the setup allows.
-use Rattle.std.proofs.Common.{◌≡◌, ◌⊎◌, ℕ, ◌+◌, ◌-◌, ◌*◌, ◌<◌, ◌≤◌, ◌==◌, Bool, true, false, ◌||◌, cond, Contains, List, [], ◌∷◌, ◌++◌, count_by, get_or, length, replicate, sum_by, Option, None, refl, sym, ap, ◌∙◌, subst, inl, inr, arith, eqb-true, append-nil}
+use Rattle.std.proofs.Common.{◌≡◌, ◌⊎◌, ℕ, ◌+◌, ◌≤◌, ◌==◌, Bool, true, false, ◌||◌, cond, List, [], ◌∷◌, ◌++◌, count_by, length, sum_by, refl, sym, ap, ◌∙◌, subst, inl, inr, arith, eqb-true, append-nil}
 use Rattle.std.specs.List.{list_any}
 use Rattle.std.proofs.lemmas.Bool.{false≢true}
 use Rattle.std.proofs.lemmas.List.{get_or-replicate, length-append, length-replicate}
@@ -9,10 +9,9 @@ use Rattle.sched_base.specs.declared.Entry.{Entry}
 use Rattle.sched_base.specs.declared.Step.{Step}
 use Rattle.flat_policy.specs.Laws.Counts.{EachNameOnce, StaysWithin}
 use Rattle.flat_policy.specs.Laws.Sound.{FlatFits, HandFits, Sound}
-use Rattle.flat_policy.specs.Machine.{GRun, Game, Hand, RunsFrom, Sleeper, empty_game, empty_hand, expected_count, fits_step, flat_at, live_count, no_hand, place_count, state_after}
-use Rattle.flat_policy.specs.Queue.{Flat, Queued, empty_flat}
+use Rattle.flat_policy.specs.Machine.{GRun, Game, RunsFrom, empty_game, empty_hand, expected_count, fits_step, flat_at, live_count, no_hand, state_after}
+use Rattle.flat_policy.specs.Queue.{Flat, empty_flat}
 use Rattle.flat_policy.specs.Setup.{SetupParts, actor_count, cluster_count, group_count}
-use Rattle.flat_policy.specs.WellFormed.{WellFormed}
 use Rattle.flat_policy.proofs.Accepted.{step_goes}
 use Rattle.flat_policy.proofs.Members.{contains_none}
 use Rattle.flat_policy.proofs.Parts.{well_formed_from}
@@ -33,8 +32,11 @@ empty_sound setup = record {
 
 empty_placed : (setup : SetupParts) (p : ℕ → Bool) → placed p (empty_game setup) ≡ 0
 empty_placed setup p =
-    omega (arith, sum_by-replicate (queued_by p) (cluster_count setup) (empty_flat (group_count setup)),
-        sum_by-replicate (held_by_test p) (actor_count setup) (empty_hand setup 0))
+    omega (
+      arith,
+      sum_by-replicate (queued_by p) (cluster_count setup) (empty_flat (group_count setup)),
+      sum_by-replicate (held_by_test p) (actor_count setup) (empty_hand setup 0),
+    )
 
 empty_once : (setup : SetupParts) → EachNameOnce (empty_game setup)
 empty_once setup = λ name. placed_name (empty_game setup) name ∙ empty_placed setup (λ n. n == name)
@@ -52,7 +54,7 @@ add_fresh a false false h k = ap one_of h
 expected_more : (made : List ℕ) (m n : ℕ) → list_any (λ k. k == m) made ≡ false → one_of (list_any (λ k. k == n) (made ++ m ∷ [])) ≡ one_of (list_any (λ k. k == n) made) + one_of (m == n)
 expected_more made m n fresh =
     add_fresh (list_any (λ k. k == n) (made ++ m ∷ [])) (list_any (λ k. k == n) made) (m == n) (list_any-append (λ k. k == n) made (m ∷ []))
-        (λ e. subst (λ k. list_any (λ j. j == k) made ≡ false) (eqb-true m n e) fresh)
+    (λ e. subst (λ k. list_any (λ j. j == k) made ≡ false) (eqb-true m n e) fresh)
 
 expected_step : (g after : Game) (names : List ℕ) → after.yard.made ≡ g.yard.made ++ names → ((names ≡ []) ⊎ ((n : ℕ) × (names ≡ n ∷ []) × (list_any (λ m. m == n) g.yard.made ≡ false)))
     → (name : ℕ) → expected_count after name ≡ expected_count g name + count_by (λ n. n == name) names
@@ -72,8 +74,14 @@ once_from g each n = omega (arith, placed_name g n, each n, one_at_most (list_an
 
 once_after : (setup : SetupParts) (g after : Game) → EachNameOnce g → Goes setup g after → EachNameOnce after
 once_after setup g after each go = λ name.
-    omega (arith, placed_name after name, placed_name g name, go.balance (once_from g each) (λ n. n == name), each name,
-        expected_step g after go.names go.made go.fresh name)
+    omega (
+      arith,
+      placed_name after name,
+      placed_name g name,
+      go.balance (once_from g each) (λ n. n == name),
+      each name,
+      expected_step g after go.names go.made go.fresh name,
+    )
 
 pub steps_keep_sound_is : (setup : SetupParts) (g : Game) (step : Step) → Sound setup g → fits_step setup step ≡ true → Sound setup (state_after setup g step)
 steps_keep_sound_is setup g step sound fits = (step_goes setup g step sound fits).sound

@@ -1,12 +1,12 @@
 -- What one step changes of a sound state: a hand and a queue, or a hand and the yard.
-use Rattle.std.proofs.Common.{◌≡◌, ◌⊎◌, ℕ, ◌+◌, ◌-◌, ◌<◌, ◌≤◌, nat_lt, ◌==◌, Bool, true, false, cond, Contains, List, [], ◌∷◌, ◌++◌, count_by, length, replicate, set, get_or, sum_by, Option, Some, None, refl, sym, ap, ◌∙◌, subst, inl, inr, arith, append-nil}
+use Rattle.std.proofs.Common.{◌≡◌, ◌⊎◌, ℕ, ◌+◌, ◌-◌, ◌<◌, ◌≤◌, nat_lt, ◌==◌, Bool, false, List, [], ◌∷◌, ◌++◌, count_by, length, set, get_or, sum_by, None, refl, sym, ap, ◌∙◌, subst, inl, inr, arith, append-nil}
 use Rattle.std.specs.List.{list_any}
-use Rattle.std.proofs.lemmas.Bool.{cases_Bool, cases_eq, cond-false, cond-true, cond_both, ltb-false, ltb-true}
+use Rattle.std.proofs.lemmas.Bool.{cases_Bool, cases_eq, cond-false, cond-true, ltb-false}
 use Rattle.std.proofs.lemmas.List.{get_or-set_other, get_or-set_same, length-replicate, length-set}
 use Rattle.std.proofs.lemmas.List.Sums.{sum_by-cons}
 use Rattle.std.proofs.lemmas.Option.{none-some}
 use Rattle.flat_policy.specs.Laws.Sound.{FlatFits, HandFits, Sound, ThreadFits, YardFits}
-use Rattle.flat_policy.specs.Machine.{Game, Hand, Yard, empty_hand, flat_at, hand_at, no_hand, no_looks, with_flat, with_hand, with_yard}
+use Rattle.flat_policy.specs.Machine.{Game, Hand, Yard, empty_hand, flat_at, hand_at, no_hand, with_flat, with_hand, with_yard}
 use Rattle.flat_policy.specs.Queue.{Flat, Queued, empty_flat}
 use Rattle.flat_policy.specs.Setup.{ClusterParts, SetupParts, actor_count, cluster_count, group_count, home_among, home_of}
 use Rattle.flat_policy.specs.WellFormed.{EachQueued}
@@ -17,8 +17,8 @@ use Rattle.flat_policy.proofs.Placed.{held_by_test, placed, placed_hand_flat, pl
 each_set : {X : Type 0} (P : X → Type 0) (d : X) (n : ℕ) (xs : List X) (i : ℕ) (x : X) → length xs ≡ n → ((j : ℕ) → j < n → P (get_or xs j d)) → P x → (j : ℕ) → j < n → P (get_or (set xs i x) j d)
 each_set P d n xs i x long each here j within =
     elim (cases_eq j i) [
-      inl e ↦ subst P (sym (ap (λ k. get_or (set xs i x) k d) e ∙ get_or-set_same xs i x d (omega (arith, e, long, within)))) here
-    | inr other ↦ subst P (sym (get_or-set_other xs i j x d other)) (each j within)
+      | inl e ↦ subst P (sym (ap (λ k. get_or (set xs i x) k d) e ∙ get_or-set_same xs i x d (omega (arith, e, long, within)))) here
+      | inr other ↦ subst P (sym (get_or-set_other xs i j x d other)) (each j within)
     ]
 
 sound_hand_flat : (setup : SetupParts) (g : Game) (a c : ℕ) (h : Hand) (s : Flat) → Sound setup g → HandFits setup h → FlatFits setup s → Sound setup (with_hand a h (with_flat c s g))
@@ -94,8 +94,8 @@ home_below : (cs : List ClusterParts) (actor : ℕ) → actor < sum_by (λ (c : 
 home_below [] actor h = absurd (omega (arith, h))
 home_below (c ∷ cs) actor h =
     elim (cases_Bool (nat_lt actor c.cpus)) [
-      inl e ↦ (let is : home_among (c ∷ cs) actor ≡ 0 = cond-true (nat_lt actor c.cpus) 0 (home_among cs (actor - c.cpus) + 1) e in omega (arith, is))
-    | inr e ↦ (let is : home_among (c ∷ cs) actor ≡ home_among cs (actor - c.cpus) + 1 = cond-false (nat_lt actor c.cpus) 0 (home_among cs (actor - c.cpus) + 1) e in
+      | inl e ↦ (let is : home_among (c ∷ cs) actor ≡ 0 = cond-true (nat_lt actor c.cpus) 0 (home_among cs (actor - c.cpus) + 1) e in omega (arith, is))
+      | inr e ↦ (let is : home_among (c ∷ cs) actor ≡ home_among cs (actor - c.cpus) + 1 = cond-false (nat_lt actor c.cpus) 0 (home_among cs (actor - c.cpus) + 1) e in
           let rest = home_below cs (actor - c.cpus) (omega (arith, h, sum_by-cons (λ (k : ClusterParts). k.cpus) c cs, ltb-false actor c.cpus e)) in
           omega (arith, is, rest))
     ]

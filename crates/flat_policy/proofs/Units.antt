@@ -1,5 +1,5 @@
 -- An order that goes by unit, and in one unit by another order.
-use Rattle.std.proofs.Common.{◌≡◌, Bool, true, false, Contains, List, cond, refl, sym, ap, ◌∙◌, subst, inl, inr, arith}
+use Rattle.std.proofs.Common.{◌≡◌, Bool, true, false, Contains, List, cond, refl, sym, ap, ◌∙◌, inl, inr}
 use Rattle.std.proofs.lemmas.Bool.{cases_Bool, cond-true, cond-false, false≢true, false_from_ne_true}
 use Rattle.flat_policy.specs.Laws.Choice.{OrdersMembers}
 use Rattle.flat_policy.proofs.Choice.{StrictOn}
@@ -30,28 +30,28 @@ unit_irreflexive M one unit inner outer u x m =
 unit_transitive : {X K : Type 0} (M : X → Type 0) (one : X → X → Bool) (unit : X → K) (inner : X → X → Bool) (outer : K → K → Bool) → Units M one unit inner outer → (x y z : X) → M x → M y → M z → by_unit one unit inner outer x y ≡ true → by_unit one unit inner outer y z ≡ true → by_unit one unit inner outer x z ≡ true
 unit_transitive M one unit inner outer u x y z mx my mz h k =
     elim (cases_Bool (one x y)) [
-      inl xy ↦ elim (cases_Bool (one y z)) [
-          inl yz ↦ cond-true (one x z) (inner x z) (outer (unit x) (unit z)) (u.joined x z mx mz (u.same x y mx my xy ∙ u.same y z my mz yz))
-              ∙ u.inner_strict.transitive x y z mx my mz
-                  (sym (cond-true (one x y) (inner x y) (outer (unit x) (unit y)) xy) ∙ h)
-                  (sym (cond-true (one y z) (inner y z) (outer (unit y) (unit z)) yz) ∙ k)
+      | inl xy ↦ elim (cases_Bool (one y z)) [
+        | inl yz ↦ cond-true (one x z) (inner x z) (outer (unit x) (unit z)) (u.joined x z mx mz (u.same x y mx my xy ∙ u.same y z my mz yz))
+            ∙ u.inner_strict.transitive x y z mx my mz
+            (sym (cond-true (one x y) (inner x y) (outer (unit x) (unit y)) xy) ∙ h)
+            (sym (cond-true (one y z) (inner y z) (outer (unit y) (unit z)) yz) ∙ k)
         | inr yz ↦ cond-false (one x z) (inner x z) (outer (unit x) (unit z))
-              (false_from_ne_true (one x z) (λ t. false≢true (sym yz ∙ u.joined y z my mz (sym (u.same x y mx my xy) ∙ u.same x z mx mz t))))
-              ∙ (ap (λ w. outer w (unit z)) (u.same x y mx my xy) ∙ (sym (cond-false (one y z) (inner y z) (outer (unit y) (unit z)) yz) ∙ k))
-        ]
-    | inr xy ↦ elim (cases_Bool (one y z)) [
-          inl yz ↦ cond-false (one x z) (inner x z) (outer (unit x) (unit z))
-              (false_from_ne_true (one x z) (λ t. false≢true (sym xy ∙ u.joined x y mx my (u.same x z mx mz t ∙ sym (u.same y z my mz yz)))))
-              ∙ (ap (λ w. outer (unit x) w) (sym (u.same y z my mz yz)) ∙ (sym (cond-false (one x y) (inner x y) (outer (unit x) (unit y)) xy) ∙ h))
+            (false_from_ne_true (one x z) (λ t. false≢true (sym yz ∙ u.joined y z my mz (sym (u.same x y mx my xy) ∙ u.same x z mx mz t))))
+            ∙ (ap (λ w. outer w (unit z)) (u.same x y mx my xy) ∙ (sym (cond-false (one y z) (inner y z) (outer (unit y) (unit z)) yz) ∙ k))
+      ]
+      | inr xy ↦ elim (cases_Bool (one y z)) [
+        | inl yz ↦ cond-false (one x z) (inner x z) (outer (unit x) (unit z))
+            (false_from_ne_true (one x z) (λ t. false≢true (sym xy ∙ u.joined x y mx my (u.same x z mx mz t ∙ sym (u.same y z my mz yz)))))
+            ∙ (ap (λ w. outer (unit x) w) (sym (u.same y z my mz yz)) ∙ (sym (cond-false (one x y) (inner x y) (outer (unit x) (unit y)) xy) ∙ h))
         | inr yz ↦ (
             let over : outer (unit x) (unit z) ≡ true = u.outer_strict.transitive x y z mx my mz
-                  (sym (cond-false (one x y) (inner x y) (outer (unit x) (unit y)) xy) ∙ h)
-                  (sym (cond-false (one y z) (inner y z) (outer (unit y) (unit z)) yz) ∙ k) in
+            (sym (cond-false (one x y) (inner x y) (outer (unit x) (unit y)) xy) ∙ h)
+            (sym (cond-false (one y z) (inner y z) (outer (unit y) (unit z)) yz) ∙ k) in
             cond-false (one x z) (inner x z) (outer (unit x) (unit z))
-              (false_from_ne_true (one x z) (λ t. false≢true
-                  (sym (u.outer_strict.irreflexive x mx) ∙ (ap (λ w. outer (unit x) w) (u.same x z mx mz t) ∙ over))))
-              ∙ over)
-        ]
+            (false_from_ne_true (one x z) (λ t. false≢true
+            (sym (u.outer_strict.irreflexive x mx) ∙ (ap (λ w. outer (unit x) w) (u.same x z mx mz t) ∙ over))))
+            ∙ over)
+      ]
     ]
 
 pub unit_strict : {X K : Type 0} (M : X → Type 0) (one : X → X → Bool) (unit : X → K) (inner : X → X → Bool) (outer : K → K → Bool) → Units M one unit inner outer → StrictOn M (by_unit one unit inner outer)
@@ -67,8 +67,8 @@ pub unit_total : {X K : Type 0} (one : X → X → Bool) (unit : X → K) (inner
     → by_unit one unit inner outer x y ≡ false → by_unit one unit inner outer y x ≡ false → x ≡ y
 unit_total one unit inner outer x y within turned apart h k =
     elim (cases_Bool (one x y)) [
-      inl e ↦ within (sym (cond-true (one x y) (inner x y) (outer (unit x) (unit y)) e) ∙ h)
+      | inl e ↦ within (sym (cond-true (one x y) (inner x y) (outer (unit x) (unit y)) e) ∙ h)
           (sym (cond-true (one y x) (inner y x) (outer (unit y) (unit x)) (sym turned ∙ e)) ∙ k)
-    | inr e ↦ apart e (sym (cond-false (one x y) (inner x y) (outer (unit x) (unit y)) e) ∙ h)
+      | inr e ↦ apart e (sym (cond-false (one x y) (inner x y) (outer (unit x) (unit y)) e) ∙ h)
           (sym (cond-false (one y x) (inner y x) (outer (unit y) (unit x)) (sym turned ∙ e)) ∙ k)
     ]

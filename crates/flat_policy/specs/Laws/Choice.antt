@@ -1,5 +1,5 @@
 -- What a strict order of a list's members makes of the choice of the one that no other precedes.
-use Rattle.std.specs.Prelude.{All, Bool, Contains, List, None, Option, Some, [], false, fold, if◌then◌else◌, is_some, true, ◌≡◌, ◌↔◌, ◌∷◌}
+use Rattle.std.specs.Prelude.{Bool, Contains, List, None, Option, Some, [], false, fold, if◌then◌else◌, is_some, true, ◌≡◌, ◌↔◌, ◌∷◌}
 use Rattle.flat_policy.specs.Unpreceded.{IsUnpreceded, unpreceded}
 
 -- a test strictly orders the members of a list: none is before itself, what is before carries on,

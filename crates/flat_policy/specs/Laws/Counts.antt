@@ -6,7 +6,7 @@ use Rattle.flat_policy.specs.Laws.Sound.{Sound}
 use Rattle.flat_policy.specs.Machine.{GRun, Game, expected_count, fits_step, flat_at, live_count, place_count, state_after}
 use Rattle.flat_policy.specs.Queue.{Flat}
 use Rattle.flat_policy.specs.Setup.{SetupParts, cluster_count, group_count}
-use Rattle.flat_policy.specs.WellFormed.{WellFormed, WellFormedWithin}
+use Rattle.flat_policy.specs.WellFormed.{WellFormed}
 
 -- each name that was made stands in one place, and no other name in any
 abbrev pub EachNameOnce : Game → Type 0

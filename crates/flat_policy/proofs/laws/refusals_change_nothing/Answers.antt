@@ -1,4 +1,4 @@
-use Rattle.std.proofs.Common.{Some, ap}
+use Rattle.std.proofs.Common.{ap}
 use Rattle.flat_policy.specs.Machine.{outcome_by}
 use Rattle.flat_policy.proofs.laws.refusals_change_nothing.Goals as goal
 
