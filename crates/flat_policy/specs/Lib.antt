@@ -12,6 +12,7 @@ pub mod Aim
 pub mod Refresh
 pub mod ClusterSteps
 pub mod Machine
+pub mod WindowLaws
 pub mod Laws
 pub mod Rows
 pub mod Places
@@ -20,3 +21,4 @@ pub mod Interleaving
 pub mod Worker
 pub mod Texts
 pub mod Load
+pub mod Examples

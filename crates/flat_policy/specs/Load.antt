@@ -1,5 +1,5 @@
 -- The load: a trace drawn from a seed, and the summary of its answers.
-use Rattle.std.specs.Prelude.{List, None, Option, Some, [], codes, decimal, false, if◌then◌else◌, is_none, is_some, length, map, nat_lt, replicate, slice_index_or, suc, sum_by, true, zero, ℕ, ◌%◌, ◌&&◌, ◌*◌, ◌++◌, ◌+◌, ◌-◌, ◌/◌, ◌==◌, ◌^◌, ◌||◌, ◌∷◌}
+use Rattle.std.specs.Prelude.{List, None, Option, Some, [], codes, decimal, false, if◌then◌else◌, is_none, is_some, length, map, nat_lt, replicate, slice_index_or, suc, sum_by, true, zero, ℕ, ◌%◌, ◌&&◌, ◌*◌, ◌++◌, ◌+◌, ◌-◌, ◌/◌, ◌==◌, ◌^◌, ◌||◌, ◌∷◌, ◌≤◌}
 use Rattle.sched_base.specs.declared.Act.{Act}
 use Rattle.sched_base.specs.declared.Answer.{Answer}
 use Rattle.sched_base.specs.declared.Bucket.{Bucket}
@@ -179,3 +179,8 @@ summary seed n st =
 -- the load's text
 abbrev pub Load : ℕ → ℕ → List ℕ
 Load seed n = summary seed n (load_after seed n)
+
+-- the makes less the ends and the queued threads are those in hands or asleep: at most seven
+abbrev pub LivesSomewhere : LoadState → Type 0
+LivesSomewhere st =
+    (st.tally.ends + queued_count st.game ≤ st.tally.makes) × (st.tally.makes ≤ st.tally.ends + queued_count st.game + 7)

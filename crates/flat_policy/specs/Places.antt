@@ -9,7 +9,7 @@ use Rattle.sched_base.specs.declared.Bucket.{Bucket}
 use Rattle.sched_base.specs.declared.Facts.{Facts}
 use Rattle.flat_policy.specs.declared.journal.Line.{Line}
 use Rattle.flat_policy.specs.Aim.{MayEnter}
-use Rattle.flat_policy.specs.ClusterSteps.{Event, enter_event, look_event, named_entry, offer_event, power_event, pull_event, refresh_event, select_event}
+use Rattle.flat_policy.specs.ClusterSteps.{Event, enter_event, look_event, named_entry, offer_event, power_event, pull_event, refresh_event, select_event, touched}
 use Rattle.flat_policy.specs.Machine.{fits_step, made_thread}
 use Rattle.flat_policy.specs.Queue.{Flat, Queued, empty_flat}
 use Rattle.flat_policy.specs.Setup.{SetupParts, group_count, home_of}
@@ -83,6 +83,32 @@ pub record CStep (setup : SetupParts) (c : ℕ) (s : Flat) (l : Line) (next : Fl
   pub in_range : moment_of l < 2 ^ 40
   pub not_before : s.last ≤ moment_of l
   pub happens : ClusterCase setup c s l next (act_of l)
+
+-- the queue that a line of a cluster leads to
+abbrev pub flat_after_entering : SetupParts → ℕ → Flat → Line → Bool → Option Facts → Flat
+flat_after_entering setup c s l head None = s
+flat_after_entering setup c s l head (Some t) = (enter_event setup c t head (moment_of l) s).flat
+
+abbrev pub flat_after_pulling : Flat → Line → Option Queued → Flat
+flat_after_pulling s l None = s
+flat_after_pulling s l (Some e) = (pull_event e (moment_of l) s).flat
+
+abbrev pub flat_after : SetupParts → ℕ → Flat → Line → Act → Flat
+flat_after setup c s l (acts.Make name group bucket base bound) = s
+flat_after setup c s l (acts.Enter at head) = flat_after_entering setup c s l head l.entry.thread
+flat_after setup c s l acts.Select = (select_event setup c (moment_of l) s).flat
+flat_after setup c s l (acts.Offer at) = (offer_event setup c (home_of setup (actor_of l)) (moment_of l) s).flat
+flat_after setup c s l (acts.Pull name) = flat_after_pulling s l (named_entry s name)
+flat_after setup c s l (acts.Look at) = touched (moment_of l) s
+flat_after setup c s l acts.Aim = s
+flat_after setup c s l (acts.Ran us) = s
+flat_after setup c s l acts.Sleep = s
+flat_after setup c s l (acts.Wake name) = s
+flat_after setup c s l acts.End = s
+flat_after setup c s l acts.Blocked = s
+flat_after setup c s l acts.Refresh = (refresh_event setup (moment_of l) s).flat
+flat_after setup c s l (acts.Off at) = (power_event false (moment_of l) s).flat
+flat_after setup c s l (acts.On at) = (power_event true (moment_of l) s).flat
 
 -- lines lead a queue from one state to another
 abbrev pub CRunFrom : SetupParts → ℕ → Flat → List Line → Flat → Type 0

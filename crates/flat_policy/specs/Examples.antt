@@ -1,0 +1,4 @@
+-- Small examples of the definitions of runs and texts.
+pub mod Merging
+pub mod Loads
+pub mod Texts
