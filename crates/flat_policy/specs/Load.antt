@@ -23,13 +23,13 @@ version_one_times = map times_of_version_one all_buckets
 -- the setup of the load: four processors and two slower ones, eight groups, 256 threads
 abbrev pub load_setup : SetupParts
 load_setup = record {
-    clusters = record { cpus = 4; rate = 1000 } ∷ record { cpus = 2; rate = 400 } ∷ [];
-    edges = record { from = 0; to = 1; weight = 8000; migrate = true; steal = 48 }
-        ∷ record { from = 1; to = 0; weight = 4000; migrate = true; steal = 63 } ∷ [];
-    groups = replicate 8 (0 ∷ 0 ∷ 0 ∷ 0 ∷ 1 ∷ 1 ∷ []);
-    threads = 256;
-    times = version_one_times ∷ version_one_times ∷ [];
-    version = 1
+  clusters = record { cpus = 4; rate = 1000 } ∷ record { cpus = 2; rate = 400 } ∷ [];
+  edges = record { from = 0; to = 1; weight = 8000; migrate = true; steal = 48 }
+      ∷ record { from = 1; to = 0; weight = 4000; migrate = true; steal = 63 } ∷ [];
+  groups = replicate 8 (0 ∷ 0 ∷ 0 ∷ 0 ∷ 1 ∷ 1 ∷ []);
+  threads = 256;
+  times = version_one_times ∷ version_one_times ∷ [];
+  version = 1;
 }
 
 -- the state that a draw makes of the one before, and the number that it gives
@@ -130,17 +130,17 @@ kept_after kept act thread = kept
 -- the load after its step number i
 abbrev pub load_taken : LoadState → ℕ → Step → LoadState
 load_taken st x step = record {
-    draw = x;
-    game = state_after load_setup st.game step;
-    kept = kept_after st.kept step.act (hand_at st.game step.actor).thread;
-    tally = tallied st.tally step.act (reply load_setup st.game step).answer
+  draw = x;
+  game = state_after load_setup st.game step;
+  kept = kept_after st.kept step.act (hand_at st.game step.actor).thread;
+  tally = tallied st.tally step.act (reply load_setup st.game step).answer;
 }
 
 abbrev pub load_step_by : LoadState → ℕ → ℕ → ℕ → LoadState
 load_step_by st i x r = load_taken st x (record {
-    moment = i * 50;
-    actor = r % 6;
-    act = load_act st i (r % 6) (r / 6) (hand_at st.game (r % 6)).thread
+  moment = i * 50;
+  actor = r % 6;
+  act = load_act st i (r % 6) (r / 6) (hand_at st.game (r % 6)).thread;
 })
 
 abbrev pub load_step : LoadState → ℕ → LoadState

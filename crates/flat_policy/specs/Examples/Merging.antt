@@ -9,8 +9,8 @@ use Rattle.sched_base.specs.declared.Answer.TheVariants as answers
 -- a line of an actor at moment 0 that got nothing
 abbrev pub got_nothing : ℕ → Act → Line
 got_nothing actor act = record {
-    entry = record { step = record { moment = 0; actor = actor; act = act }; answer = answers.Empty; thread = None };
-    mark = None
+  entry = record { step = record { moment = 0; actor = actor; act = act }; answer = answers.Empty; thread = None };
+  mark = None;
 }
 
 abbrev pub select_of_0 : Line

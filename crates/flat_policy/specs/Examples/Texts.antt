@@ -39,7 +39,7 @@ LineReadings =
 abbrev pub RunReadings : Type 0
 RunReadings =
     (read_run_line (codes "thread 1 0 FG 31 - 5000 2000 12000")
-        ≡ Ok (program_line (record { name = 1; group = 0; bucket = Fg; base = 31; bound = None; spans = 5000 ∷ 2000 ∷ 12000 ∷ [] })))
+    ≡ Ok (program_line (record { name = 1; group = 0; bucket = Fg; base = 31; bound = None; spans = 5000 ∷ 2000 ∷ 12000 ∷ [] })))
     × (read_run_line (codes "off 1 4999") ≡ Ok (power_line (record { cluster = 1; on = false; turn = 4999 })))
     × (read_run_line (codes "thread 1 0 FG 31 - 5000 2000") ≡ Err line_faults.Word)
     × (read_run_line (codes "thread 1 0 FG 31 - 0") ≡ Err line_faults.Range)
@@ -56,9 +56,9 @@ abbrev pub SetupTexts : Type 0
 SetupTexts =
     (setup_text one_cluster ≡ codes "{\"clusters\":[[1,1000]],\"edges\":[],\"groups\":[[0,0,0,0,0,0]],\"threads\":8,\"version\":1}")
     × (setup_text two_clusters
-        ≡ codes "{\"clusters\":[[1,1000],[1,400]],\"edges\":[[0,1,8000,1,16],[1,0,0,1,0]],\"groups\":[[0,0,0,0,0,0],[1,1,1,1,1,1]],\"threads\":8,\"version\":1}")
+    ≡ codes "{\"clusters\":[[1,1000],[1,400]],\"edges\":[[0,1,8000,1,16],[1,0,0,1,0]],\"groups\":[[0,0,0,0,0,0],[1,1,1,1,1,1]],\"threads\":8,\"version\":1}")
     × (setup_text without_warp
-        ≡ codes "{\"clusters\":[[1,1000]],\"edges\":[],\"groups\":[[0,0,0,0,0,0]],\"threads\":8,\"times\":[[[0,0,37500,75000,150000,250000],[0,0,4000,2000,1000,0],[10000,10000,8000,6000,4000,2000]]],\"version\":2}")
+    ≡ codes "{\"clusters\":[[1,1000]],\"edges\":[],\"groups\":[[0,0,0,0,0,0]],\"threads\":8,\"times\":[[[0,0,37500,75000,150000,250000],[0,0,4000,2000,1000,0],[10000,10000,8000,6000,4000,2000]]],\"version\":2}")
 
 -- setup lines that are read, and their first faults
 abbrev pub SetupReadings : Type 0
