@@ -3,6 +3,7 @@
 ghost use Rattle.flat_policy.specs.Examples.Loads.{OneStepMakes, SixtySteps};
 ghost use Rattle.flat_policy.specs.Examples.Merging.{TwoAreMerged};
 ghost use Rattle.flat_policy.specs.Examples.OneThread.{OneThreadReplies, OneThreadRuns, OneThreadIsOwn, OneThreadIsWorked, OneThreadInCluster, OneThreadInYard, OneThreadIsMerged, OneThreadText};
+ghost use Rattle.flat_policy.specs.Examples.Warps.{WarpIsKept, WindowIsKept};
 ghost use Rattle.flat_policy.specs.Examples.Texts.{LineReadings, RunReadings, LineTexts, SetupTexts, SetupReadings, Judgements};
 
 /// Two actors' lists are put together.
@@ -104,5 +105,17 @@ pub fn one_thread_is_merged()
 /// It has a text.
 pub fn one_thread_text()
     ensures { OneThreadText }
+{
+}
+
+/// The warp of a run is kept.
+pub fn warp_is_kept()
+    ensures { WarpIsKept }
+{
+}
+
+/// The starvation window of a run is kept.
+pub fn window_is_kept()
+    ensures { WindowIsKept }
 {
 }
