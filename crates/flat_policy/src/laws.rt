@@ -1,1 +1,78 @@
 //! Laws that show that the definitions say what is meant. Each is the contract of a function that does nothing.
+
+ghost use Rattle.flat_policy.specs.Laws.Choice.{ChoiceIsOne, ChoiceGoesByMembers};
+ghost use Rattle.flat_policy.specs.Laws.Kept.{EmptyIsWellFormed, StepsKeepWellFormed};
+ghost use Rattle.flat_policy.specs.Laws.Aims.{AimMayBeEntered};
+ghost use Rattle.flat_policy.specs.Laws.Offers.{OffersWhatMayBeTaken, OffersAreOne};
+ghost use Rattle.flat_policy.specs.Laws.Picks.{PrecedesOrders, GoesBeforeOrders, ChoosesAFilledLane, PickIsOne};
+ghost use Rattle.flat_policy.specs.Laws.Steps.{ExpiresOnce, RefusalsChangeNothing};
+
+/// Windows that expire twice at one moment are as after once.
+pub fn expires_once()
+    ensures { ExpiresOnce }
+{}
+
+/// A refused step is answered its refusal, moves no thread, and leaves all as it was.
+pub fn refusals_change_nothing()
+    ensures { RefusalsChangeNothing }
+{}
+
+/// Under a strict order of a list's members, the choice of the one that no other precedes is there exactly
+/// where there are members, is the only such one, and is what one pass over the list finds.
+pub fn choice_is_one<T>()
+    ensures { ChoiceIsOne T }
+{}
+
+/// Under a strict order the choice goes by the members alone, and not by where they stand.
+pub fn choice_goes_by_members<T>()
+    ensures { ChoiceGoesByMembers T }
+{}
+
+/// In a well-formed queue, which entry of a unit goes first is a strict order.
+pub fn precedes_orders()
+    ensures { PrecedesOrders }
+{}
+
+/// In a well-formed queue, which entry of a lane goes first in the cluster is a strict order.
+pub fn goes_before_orders()
+    ensures { GoesBeforeOrders }
+{}
+
+/// In a well-formed queue a lane is chosen exactly where there are entries, and it has some.
+pub fn chooses_a_filled_lane()
+    ensures { ChoosesAFilledLane }
+{}
+
+/// In a well-formed queue there is a pick exactly where there are entries: the only entry of the chosen lane
+/// that no entry goes before.
+pub fn pick_is_one()
+    ensures { PickIsOne }
+{}
+
+/// A queue without entries is well-formed.
+pub fn empty_is_well_formed()
+    ensures { EmptyIsWellFormed }
+{}
+
+/// Each step at a cluster keeps its queue well-formed: an enter where there is room for one more, and
+/// every other.
+pub fn steps_keep_well_formed()
+    ensures { StepsKeepWellFormed }
+{}
+
+/// An aim is a cluster that the thread may enter. It is refused exactly where a cluster that it needs was not
+/// looked at, and then it names the lowest such cluster.
+pub fn aim_may_be_entered()
+    ensures { AimMayBeEntered }
+{}
+
+/// An offered entry stands in the queue, and the other cluster may take it; one is offered exactly where some
+/// entry may be taken.
+pub fn offers_what_may_be_taken()
+    ensures { OffersWhatMayBeTaken }
+{}
+
+/// Both choices of an offer go by a strict order, so that each has one answer.
+pub fn offers_are_one()
+    ensures { OffersAreOne }
+{}
