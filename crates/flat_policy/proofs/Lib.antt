@@ -25,3 +25,10 @@ pub mod Kept
 pub mod StepsKeep
 pub mod Offers
 pub mod Aims
+pub mod Placed
+pub mod SoundParts
+pub mod Moved
+pub mod HandMoves
+pub mod YardMoves
+pub mod Accepted
+pub mod Runs

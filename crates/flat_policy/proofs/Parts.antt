@@ -126,7 +126,7 @@ pub record KeepsPlace (f : Queued → Queued) : Type 0 where
   pub order : (e : Queued) → (f e).order ≡ e.order
   pub group : (e : Queued) → (f e).facts.group ≡ e.facts.group
 
-each_map : (P Q : Queued → Type 0) (f : Queued → Queued) → ((e : Queued) → P e → Q (f e)) → (es : List Queued) → EachQueued P es → EachQueued Q (map f es)
+pub each_map : (P Q : Queued → Type 0) (f : Queued → Queued) → ((e : Queued) → P e → Q (f e)) → (es : List Queued) → EachQueued P es → EachQueued Q (map f es)
 each_map P Q f h [] each = tt
 each_map P Q f h (e ∷ es) each = (h e each.0, each_map P Q f h es each.1)
 

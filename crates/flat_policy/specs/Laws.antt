@@ -5,3 +5,5 @@ pub mod Picks
 pub mod Kept
 pub mod Offers
 pub mod Aims
+pub mod Sound
+pub mod Counts

@@ -5,6 +5,8 @@ ghost use Rattle.flat_policy.specs.Laws.Kept.{EmptyIsWellFormed, StepsKeepWellFo
 ghost use Rattle.flat_policy.specs.Laws.Aims.{AimMayBeEntered};
 ghost use Rattle.flat_policy.specs.Laws.Offers.{OffersWhatMayBeTaken, OffersAreOne};
 ghost use Rattle.flat_policy.specs.Laws.Picks.{PrecedesOrders, GoesBeforeOrders, ChoosesAFilledLane, PickIsOne};
+ghost use Rattle.flat_policy.specs.Laws.Sound.{EmptyIsSound, StepsKeepSound};
+ghost use Rattle.flat_policy.specs.Laws.Counts.{StepsKeepCounts, RunsKeepCounts, RunsStaySound, RunsStayWithin};
 ghost use Rattle.flat_policy.specs.Laws.Steps.{ExpiresOnce, RefusalsChangeNothing};
 
 /// Windows that expire twice at one moment are as after once.
@@ -75,4 +77,35 @@ pub fn offers_what_may_be_taken()
 /// Both choices of an offer go by a strict order, so that each has one answer.
 pub fn offers_are_one()
     ensures { OffersAreOne }
+{}
+
+/// The state before any step is sound: a queue for each cluster, a hand for each actor, and all in range.
+pub fn empty_is_sound()
+    ensures { EmptyIsSound }
+{}
+
+/// Each step that the setup fits keeps a state sound.
+pub fn steps_keep_sound()
+    ensures { StepsKeepSound }
+{}
+
+/// Each step that the setup fits leaves each name that was made in one place, and no other name in any.
+pub fn steps_keep_counts()
+    ensures { StepsKeepCounts }
+{}
+
+/// After every run each name that was made stands in one place, and no other name in any.
+pub fn runs_keep_counts()
+    ensures { RunsKeepCounts }
+{}
+
+/// After every run the state is sound.
+pub fn runs_stay_sound()
+    ensures { RunsStaySound }
+{}
+
+/// After every run no more threads live than the setup allows, and each queue is well-formed where that is
+/// no more than 4096.
+pub fn runs_stay_within()
+    ensures { RunsStayWithin }
 {}
