@@ -1,5 +1,5 @@
 -- The times of version 1, for each bucket, in microseconds.
-use Rattle.std.specs.Prelude.{ℕ}
+use Rattle.std.specs.Prelude.{List, [], ℕ, ◌∷◌}
 use Rattle.sched_base.specs.declared.buckets.Bucket.{Bucket}
 use Rattle.sched_base.specs.declared.buckets.Bucket.TheVariants.{Ui, Fg, Ini, Df, Ut, Bg}
 
@@ -29,3 +29,7 @@ quantum_of Ini = 8000
 quantum_of Df = 6000
 quantum_of Ut = 4000
 quantum_of Bg = 2000
+
+-- a time for each bucket, by bucket index
+abbrev pub by_bucket : (Bucket → ℕ) → List ℕ
+by_bucket time = time Ui ∷ time Fg ∷ time Ini ∷ time Df ∷ time Ut ∷ time Bg ∷ []

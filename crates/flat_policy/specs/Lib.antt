@@ -1,5 +1,6 @@
 pub mod Unpreceded
 pub mod Setup
+pub mod Ranges
 pub mod Usage
 pub mod Queue
 pub mod WellFormed
@@ -11,5 +12,13 @@ pub mod Aim
 pub mod Refresh
 pub mod ClusterSteps
 pub mod Machine
+pub mod WindowLaws
 pub mod Laws
 pub mod Rows
+pub mod Places
+pub mod Own
+pub mod Interleaving
+pub mod Worker
+pub mod Texts
+pub mod Load
+pub mod Examples

@@ -17,3 +17,15 @@ pub struct EdgeSpec {
     pub migrate: bool,
     pub steal: u8,
 }
+
+/// A field of the setup line.
+#[derive(Clone, Copy, Debug, Drop, PartialEq, Eq)]
+pub enum Field {
+    Whole,
+    Clusters,
+    Edges,
+    Groups,
+    Threads,
+    Times,
+    Version,
+}

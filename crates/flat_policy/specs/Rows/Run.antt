@@ -14,8 +14,8 @@ pub record Said : Type 0 where
   pub step : Step
   pub answer : Answer
 
-abbrev pub line : ℕ → ℕ → Act → Answer → Said
-line moment actor act answer = record { step = record { moment = moment; actor = actor; act = act }; answer = answer }
+abbrev pub row_line : ℕ → ℕ → Act → Answer → Said
+row_line moment actor act answer = record { step = record { moment = moment; actor = actor; act = act }; answer = answer }
 
 -- what a reply says, without the thread
 abbrev pub said : Entry → Said
