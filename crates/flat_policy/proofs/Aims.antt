@@ -12,6 +12,7 @@ use Rattle.flat_policy.proofs.Choice.{is_unpreceded}
 use Rattle.flat_policy.proofs.Members.{contains_cases, contains_here, contains_later, contains_none, find_finds, finds_from_member, member_from_any, member_of_filter, any_from_member}
 use Rattle.flat_policy.proofs.Leaves.{same_bool}
 use Rattle.flat_policy.proofs.PickIsOne.{some_of}
+use Rattle.flat_policy.proofs.Ascending.{Ascends, filter_ascends, first_is_least, numbers_ascend}
 
 -- what is kept of a list by a function that may give nothing
 member_by : {X Y : Type 0} (h : X → Option Y) (x : X) (xs : List X) (y : Y) (o : Option Y) → h x ≡ o → Contains (cons_option o (filter_map h xs)) y
@@ -70,45 +71,6 @@ aim_enters setup looks prefer None None c h =
     (among_is prefer (look_at looks prefer) (targets setup looks prefer) (λ d. ((d == prefer) || migrates setup prefer d) ≡ true)
     (or_left (prefer == prefer) (migrates setup prefer prefer) (eq-eqb prefer prefer refl))
     (λ x d. or_right (x.cluster == prefer) (migrates setup prefer x.cluster) (target_migrates setup looks prefer x d)))
-
--- numbers that ascend, and the first that passes among them
-abbrev Ascends : List ℕ → Type 0
-Ascends [] = Unit {0}
-Ascends (x ∷ xs) = ((y : ℕ) → Contains xs y → x < y) × Ascends xs
-
-number_from : (first count n : ℕ) → Contains (numbers_from first count) n → first ≤ n
-number_from first zero n c = absurd (contains_none n c)
-number_from first (suc count) n c =
-    elim (contains_cases first (numbers_from (suc first) count) n c) [
-      | inl is ↦ omega (arith, is)
-      | inr d ↦ omega (arith, number_from (suc first) count n d)
-    ]
-
-numbers_ascend : (first count : ℕ) → Ascends (numbers_from first count)
-numbers_ascend first zero = tt
-numbers_ascend first (suc count) = (λ y c. number_from (suc first) count y c, numbers_ascend (suc first) count)
-
-filter_ascends : (p : ℕ → Bool) (xs : List ℕ) → Ascends xs → Ascends (filter p xs)
-filter_ascends p [] up = tt
-filter_ascends p (x ∷ xs) up =
-    cond_both (p x) (x ∷ filter p xs) (filter p xs) Ascends
-    (λ h. (λ y c. up.0 y (member_of_filter p xs y c).0, filter_ascends p xs up.1))
-    (λ h. filter_ascends p xs up.1)
-
-first_is_least : (p : ℕ → Bool) (xs : List ℕ) → Ascends xs → (c : ℕ) → find p xs ≡ Some c → (d : ℕ) → Contains xs d → p d ≡ true → c ≤ d
-first_is_least p [] up c h d m t = absurd (contains_none d m)
-first_is_least p (x ∷ xs) up c h d m t =
-    elim (cases_Bool (p x)) [
-      | inl e ↦ (let is : x ≡ c = same_Some x c (sym (cond-true (p x) (Some x) (find p xs) e) ∙ h) in
-          elim (contains_cases x xs d m) [
-            | inl here ↦ omega (arith, is, here)
-            | inr later ↦ omega (arith, is, up.0 d later)
-          ])
-      | inr e ↦ elim (contains_cases x xs d m) [
-        | inl here ↦ absurd (false≢true (sym e ∙ (ap p here ∙ t)))
-        | inr later ↦ first_is_least p xs up.1 c (sym (cond-false (p x) (Some x) (find p xs) e) ∙ h) d later t
-      ]
-    ]
 
 needed_by_ascends : (setup : SetupParts) (prefer : ℕ) (js : List ℕ) → Ascends (needed_by setup prefer js)
 needed_by_ascends setup prefer [] = tt

@@ -24,10 +24,10 @@ bound_transitive true true c h k = absurd (false≢true h)
 bound_transitive true false c h k = absurd (false≢true k)
 bound_transitive false b c h k = absurd (false≢true h)
 
-higher_irreflexive : (x : Lane) → stands_higher x x ≡ false
+pub higher_irreflexive : (x : Lane) → stands_higher x x ≡ false
 higher_irreflexive x = by_number_irreflexive (index x.bucket) (x.bound && not x.bound) (bound_irreflexive x.bound)
 
-higher_transitive : (x y z : Lane) → stands_higher x y ≡ true → stands_higher y z ≡ true → stands_higher x z ≡ true
+pub higher_transitive : (x y z : Lane) → stands_higher x y ≡ true → stands_higher y z ≡ true → stands_higher x z ≡ true
 higher_transitive x y z h k =
     rises_transitive (index x.bucket) (index y.bucket) (index z.bucket) (x.bound && not y.bound) (y.bound && not z.bound) (x.bound && not z.bound)
     (λ e f. bound_transitive x.bound y.bound z.bound) h k

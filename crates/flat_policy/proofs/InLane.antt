@@ -52,7 +52,7 @@ clutch_apart groups s w k l differ gk gl hk hl h j =
 abbrev pub UnboundOf : Bucket → Queued → Type 0
 UnboundOf b x = (is_some x.facts.bound ≡ false) × (x.facts.bucket ≡ b)
 
-unit_same : (b : Bucket) (x y : Queued) → UnboundOf b x → UnboundOf b y → in_one_unit x.facts y.facts ≡ true → clutch_of x.facts ≡ clutch_of y.facts
+pub unit_same : (b : Bucket) (x y : Queued) → UnboundOf b x → UnboundOf b y → in_one_unit x.facts y.facts ≡ true → clutch_of x.facts ≡ clutch_of y.facts
 unit_same b x y ux uy h =
     elim (or_cases (is_some x.facts.bound) (x.facts.group == y.facts.group) h) [
       | inl e ↦ absurd (false≢true (sym ux.0 ∙ e))
@@ -95,11 +95,11 @@ unbound_total groups s w b x y cx cy ux uy h k =
     h k
 
 -- bound entries of one lane stand in one unit
-bound_alike : (s : Flat) (x y : Queued) → is_some x.facts.bound ≡ true → precedes_in_lane s x y ≡ precedes x y
+pub bound_alike : (s : Flat) (x y : Queued) → is_some x.facts.bound ≡ true → precedes_in_lane s x y ≡ precedes x y
 bound_alike s x y e = ap (λ b. cond (b || (x.facts.group == y.facts.group)) (precedes x y) (clutch_precedes s (clutch_of x.facts) (clutch_of y.facts))) e
 
 -- the members of a lane
-lane_member : (s : Flat) (at : Lane) (x : Queued) → Contains (lane_entries s at) x → Contains s.entries x × (in_lane at x ≡ true) × (x.facts.bucket ≡ at.bucket) × (is_some x.facts.bound ≡ at.bound)
+pub lane_member : (s : Flat) (at : Lane) (x : Queued) → Contains (lane_entries s at) x → Contains s.entries x × (in_lane at x ≡ true) × (x.facts.bucket ≡ at.bucket) × (is_some x.facts.bound ≡ at.bound)
 lane_member s at x c =
     let m = member_of_filter (in_lane at) s.entries x c in
     let is = in_lane_is at x m.1 in

@@ -101,7 +101,7 @@ int_transitive (negsuc a) y (pos c) h k = refl
 int_transitive (negsuc a) (pos b) (negsuc c) h k = absurd (false≢true k)
 int_transitive (negsuc a) (negsuc b) (negsuc c) h k = less_transitive c b a k h
 
-neither_less : (a b : ℕ) → nat_lt a b ≡ false → nat_lt b a ≡ false → a ≡ b
+pub neither_less : (a b : ℕ) → nat_lt a b ≡ false → nat_lt b a ≡ false → a ≡ b
 neither_less a b h k = omega (arith, ltb-false a b h, ltb-false b a k)
 
 pub int_total : (x y : ℤ) → int_lt x y ≡ false → int_lt y x ≡ false → x ≡ y

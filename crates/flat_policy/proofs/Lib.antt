@@ -32,3 +32,6 @@ pub mod HandMoves
 pub mod YardMoves
 pub mod Accepted
 pub mod Runs
+pub mod Ascending
+pub mod Orders
+pub mod ByUnit

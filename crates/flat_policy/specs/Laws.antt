@@ -7,3 +7,5 @@ pub mod Offers
 pub mod Aims
 pub mod Sound
 pub mod Counts
+pub mod Orders
+pub mod Units

@@ -4,6 +4,8 @@ ghost use Rattle.flat_policy.specs.Laws.Choice.{ChoiceIsOne, ChoiceGoesByMembers
 ghost use Rattle.flat_policy.specs.Laws.Kept.{EmptyIsWellFormed, StepsKeepWellFormed};
 ghost use Rattle.flat_policy.specs.Laws.Aims.{AimMayBeEntered};
 ghost use Rattle.flat_policy.specs.Laws.Offers.{OffersWhatMayBeTaken, OffersAreOne};
+ghost use Rattle.flat_policy.specs.Laws.Orders.{LanesAreOrdered, TargetsAreOrdered};
+ghost use Rattle.flat_policy.specs.Laws.Units.{PickStandsInLane, FirstStandsInClutch, FirstOfBoundLane};
 ghost use Rattle.flat_policy.specs.Laws.Picks.{PrecedesOrders, GoesBeforeOrders, ChoosesAFilledLane, PickIsOne};
 ghost use Rattle.flat_policy.specs.Laws.Sound.{EmptyIsSound, StepsKeepSound};
 ghost use Rattle.flat_policy.specs.Laws.Counts.{StepsKeepCounts, RunsKeepCounts, RunsStaySound, RunsStayWithin};
@@ -108,4 +110,30 @@ pub fn runs_stay_sound()
 /// no more than 4096.
 pub fn runs_stay_within()
     ensures { RunsStayWithin }
+{}
+
+/// The lanes of a well-formed queue stand in a strict order by when they are due, and in one by how high they
+/// stand.
+pub fn lanes_are_ordered()
+    ensures { LanesAreOrdered }
+{}
+
+/// Targets stand in a strict order, so that an aim has one answer.
+pub fn targets_are_ordered()
+    ensures { TargetsAreOrdered }
+{}
+
+/// The pick of a lane that has entries is the first of that lane.
+pub fn pick_stands_in_lane()
+    ensures { PickStandsInLane }
+{}
+
+/// The first of an unbound lane is the first of its first clutch bucket.
+pub fn first_stands_in_clutch()
+    ensures { FirstStandsInClutch }
+{}
+
+/// The first of a bound lane goes by entry alone.
+pub fn first_of_bound_lane()
+    ensures { FirstOfBoundLane }
 {}
