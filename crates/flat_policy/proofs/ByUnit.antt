@@ -11,9 +11,10 @@ use Rattle.flat_policy.specs.Precedence.{clutch_precedes, in_one_unit, precedes,
 use Rattle.flat_policy.specs.Queue.{Clutch, Flat, Queued, clutch_entries, clutch_of, has_entries, in_clutch, in_lane, lane, lane_entries}
 use Rattle.flat_policy.specs.Unpreceded.{IsUnpreceded, is_preceded, unpreceded}
 use Rattle.flat_policy.specs.WellFormed.{WellFormed}
+use Rattle.flat_policy.proofs.ByMembers.{choice_alike, order_within}
 use Rattle.flat_policy.proofs.Buckets.{in_clutch_parts, in_own_clutch, in_own_lane}
 use Rattle.flat_policy.proofs.Chosen.{has_from_member}
-use Rattle.flat_policy.proofs.Choice.{chosen_is, is_unpreceded, order_within, strict_from_order, there_under_strict}
+use Rattle.flat_policy.proofs.Choice.{chosen_is, is_unpreceded, strict_from_order, there_under_strict}
 use Rattle.flat_policy.proofs.InLane.{UnboundOf, bound_alike, goes_alike, lane_member, lane_order, unit_same}
 use Rattle.flat_policy.proofs.Members.{all_from_members, any_from_member, contains_here, contains_later, filter_has, member_from_any, member_of_filter}
 use Rattle.flat_policy.proofs.PickIsOne.{pick_in_there, some_of}
@@ -75,20 +76,6 @@ first_in_clutch groups s at k w free f =
     let found = first_there (clutch_entries s k) o m.0 (filter_has (in_clutch k) s.entries m.0 m.1 m.2) in
     chosen_is (precedes_in_lane s) (lane_entries s at) (lane_order groups s w at) found.0
         (first_of_clutch s at k free f found.0 (is_unpreceded precedes (clutch_entries s k) found.0 found.1)) ∙ sym found.1
-
--- tests that agree on the members choose the same
-any_alike : {X : Type 0} (p q : X → Bool) (xs : List X) → ((x : X) → Contains xs x → p x ≡ q x) → list_any p xs ≡ list_any q xs
-any_alike p q [] h = refl
-any_alike p q (x ∷ xs) h = ap₂ (λ a b. a || b) (h x (contains_here x xs)) (any_alike p q xs (λ y c. h y (contains_later x xs y c)))
-
-find_alike : {X : Type 0} (p q : X → Bool) (xs : List X) → ((x : X) → Contains xs x → p x ≡ q x) → find p xs ≡ find q xs
-find_alike p q [] h = refl
-find_alike p q (x ∷ xs) h = ap₂ (λ b o. cond b (Some x) o) (h x (contains_here x xs)) (find_alike p q xs (λ y c. h y (contains_later x xs y c)))
-
-pub choice_alike : {X : Type 0} (before after : X → X → Bool) (xs : List X) → ((x y : X) → Contains xs x → Contains xs y → before x y ≡ after x y) → unpreceded before xs ≡ unpreceded after xs
-choice_alike before after xs same =
-    find_alike (λ x. not (is_preceded before xs x)) (λ x. not (is_preceded after xs x)) xs
-        (λ x c. ap not (any_alike (λ y. before y x) (λ y. after y x) xs (λ y d. same y x d c)))
 
 pub first_of_bound : (groups : ℕ) (s : Flat) (at : Lane) → WellFormed groups s → at.bound ≡ true → unpreceded (precedes_in_lane s) (lane_entries s at) ≡ unpreceded precedes (lane_entries s at)
 first_of_bound groups s at w bound =

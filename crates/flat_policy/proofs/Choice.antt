@@ -129,33 +129,3 @@ chooses_one before xs o = record {
   only = only_one before xs o;
   by_scan = scan_is before xs o;
 }
-
--- a strict order of a list's members is one of the members of any list that has no others
-pub order_within : {X : Type 0} (before : X → X → Bool) (xs ys : List X) → ((x : X) → Contains ys x → Contains xs x) → OrdersMembers before xs → OrdersMembers before ys
-order_within before xs ys sub o = record {
-  irreflexive = λ x c. o.irreflexive x (sub x c);
-  transitive = λ x y z c d e. o.transitive x y z (sub x c) (sub y d) (sub z e);
-  total = λ x y c d. o.total x y (sub x c) (sub y d);
-}
-
--- one that is preceded by none of a list is preceded by none of a list with the same members
-pub unpreceded_among : {X : Type 0} (before : X → X → Bool) (xs ys : List X) → SameMembers xs ys → (x : X) → IsUnpreceded before xs x → IsUnpreceded before ys x
-unpreceded_among before xs ys same x h = record {
-  member = same.there x h.member;
-  first = all_from_members (λ y. before y x ≡ false) ys (λ y c. All-contains (λ z. before z x ≡ false) xs y h.first (same.back y c));
-}
-
--- a list without members has no choice, and a list with the same members has none either
-goes_by_none : {X : Type 0} (before : X → X → Bool) (xs ys : List X) → OrdersMembers before xs → SameMembers xs ys → unpreceded before xs ≡ None → None ≡ unpreceded before ys
-goes_by_none before [] [] o same e = refl
-goes_by_none before [] (y ∷ ys) o same e = absurd (contains_none y (same.back y (contains_here y ys)))
-goes_by_none {X} before (x ∷ xs) ys o same e =
-    absurd (false≢true (ap is_some (sym e) ∙ there_under_strict before (x ∷ xs) (strict_from_order before (x ∷ xs) o)))
-
-goes_by_members : {X : Type 0} (before : X → X → Bool) (xs ys : List X) → OrdersMembers before xs → SameMembers xs ys → (o : Option X) → unpreceded before xs ≡ o → o ≡ unpreceded before ys
-goes_by_members before xs ys o same (Some x) e =
-    sym (chosen_is before ys (order_within before xs ys same.back o) x (unpreceded_among before xs ys same x (is_unpreceded before xs x e)))
-goes_by_members before xs ys o same None e = goes_by_none before xs ys o same e
-
-pub choice_by_members : {X : Type 0} (before : X → X → Bool) (xs ys : List X) → OrdersMembers before xs → SameMembers xs ys → unpreceded before xs ≡ unpreceded before ys
-choice_by_members before xs ys o same = goes_by_members before xs ys o same (unpreceded before xs) refl

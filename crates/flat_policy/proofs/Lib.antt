@@ -1,5 +1,6 @@
 pub mod Members
 pub mod Choice
+pub mod ByMembers
 pub mod Windows
 pub mod Lexical
 pub mod Entries

@@ -1,4 +1,4 @@
-use Rattle.flat_policy.proofs.Choice.{choice_by_members}
+use Rattle.flat_policy.proofs.ByMembers.{choice_by_members}
 use Rattle.flat_policy.proofs.laws.choice_goes_by_members.Goals as goal
 
 pub returns : goal.returns
