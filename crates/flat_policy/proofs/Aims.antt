@@ -1,12 +1,12 @@
 -- Aims: which clusters they name.
-use Rattle.std.proofs.Common.{◌≡◌, ℕ, zero, suc, ◌+◌, ◌<◌, ◌≤◌, ◌==◌, nat_lt, Bool, true, ◌||◌, cond, Contains, List, [], ◌∷◌, filter, filter_map, find, Option, Some, None, is_some, is_none, Result, Ok, Err, is_err, refl, sym, ap, ◌∙◌, subst, inl, inr, arith, eq-eqb}
+use Rattle.std.proofs.Common.{◌≡◌, ℕ, ◌+◌, ◌==◌, nat_lt, Bool, true, ◌||◌, cond, Contains, List, [], ◌∷◌, filter, filter_map, find, Option, Some, None, is_some, is_none, Result, Ok, Err, is_err, refl, sym, ap, ◌∙◌, subst, inl, inr, eq-eqb}
 use Rattle.std.specs.List.{cons_option, list_any}
-use Rattle.std.proofs.lemmas.Bool.{cases_Bool, cond-false, cond-true, cond_both, false≢true, or_left, or_right}
+use Rattle.std.proofs.lemmas.Bool.{cond_both, false≢true, or_left, or_right}
 use Rattle.std.proofs.lemmas.Option.{none-some, same_Some}
 use Rattle.sched_base.specs.declared.Facts.{Facts}
 use Rattle.flat_policy.specs.Aim.{Look, Target, aim_among, aim_by, cluster_or, dark, lighter, loaded, look_at, may_enter_by, movable, needed, needed_by, not_looked, target_at, targets}
 use Rattle.flat_policy.specs.Laws.Aims.{AimsRight, IsLowestUnseen}
-use Rattle.flat_policy.specs.Setup.{SetupParts, cluster_count, edge_weight, migrates, numbers_below, numbers_from}
+use Rattle.flat_policy.specs.Setup.{SetupParts, cluster_count, edge_weight, migrates, numbers_below}
 use Rattle.flat_policy.specs.Unpreceded.{unpreceded}
 use Rattle.flat_policy.proofs.Choice.{is_unpreceded}
 use Rattle.flat_policy.proofs.Members.{contains_cases, contains_here, contains_later, contains_none, find_finds, finds_from_member, member_from_any, member_of_filter, any_from_member}

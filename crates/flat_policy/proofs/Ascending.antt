@@ -1,5 +1,5 @@
 -- Lists whose numbers ascend.
-use Rattle.std.proofs.Common.{◌≡◌, ℕ, zero, suc, ◌<◌, ◌≤◌, Bool, true, false, cond, Contains, List, [], ◌∷◌, filter, find, map, Some, sym, ap, ◌∙◌, subst, inl, inr, arith}
+use Rattle.std.proofs.Common.{◌≡◌, ℕ, zero, suc, ◌<◌, ◌≤◌, Bool, true, Contains, List, [], ◌∷◌, filter, find, map, Some, sym, ap, ◌∙◌, subst, inl, inr, arith}
 use Rattle.std.proofs.lemmas.Bool.{cases_Bool, cond-false, cond-true, cond_both, false≢true}
 use Rattle.std.proofs.lemmas.Option.{same_Some}
 use Rattle.flat_policy.specs.Setup.{numbers_from}
@@ -49,20 +49,20 @@ number_of_member : {X : Type 0} (f : X → ℕ) (xs : List X) (x : X) → Contai
 number_of_member f [] x c = absurd (contains_none x c)
 number_of_member f (y ∷ ys) x c =
     elim (contains_cases y ys x c) [
-      inl is ↦ subst (λ n. Contains (f y ∷ map f ys) n) (ap f is) (contains_here (f y) (map f ys))
-    | inr d ↦ contains_later (f y) (map f ys) (f x) (number_of_member f ys x d)
+      | inl is ↦ subst (λ n. Contains (f y ∷ map f ys) n) (ap f is) (contains_here (f y) (map f ys))
+      | inr d ↦ contains_later (f y) (map f ys) (f x) (number_of_member f ys x d)
     ]
 
 pub same_from_number : {X : Type 0} (f : X → ℕ) (xs : List X) → Ascends (map f xs) → (x y : X) → Contains xs x → Contains xs y → f x ≡ f y → x ≡ y
 same_from_number f [] up x y c d same = absurd (contains_none x c)
 same_from_number f (z ∷ zs) up x y c d same =
     elim (contains_cases z zs x c) [
-      inl zx ↦ elim (contains_cases z zs y d) [
-          inl zy ↦ sym zx ∙ zy
+      | inl zx ↦ elim (contains_cases z zs y d) [
+        | inl zy ↦ sym zx ∙ zy
         | inr dy ↦ absurd (omega (arith, ap f zx, same, up.0 (f y) (number_of_member f zs y dy)))
-        ]
-    | inr dx ↦ elim (contains_cases z zs y d) [
-          inl zy ↦ absurd (omega (arith, ap f zy, same, up.0 (f x) (number_of_member f zs x dx)))
+      ]
+      | inr dx ↦ elim (contains_cases z zs y d) [
+        | inl zy ↦ absurd (omega (arith, ap f zy, same, up.0 (f x) (number_of_member f zs x dx)))
         | inr dy ↦ same_from_number f zs up.1 x y dx dy same
-        ]
+      ]
     ]

@@ -1,5 +1,5 @@
 -- The choice goes by the members of a list and by how the test orders them, and by nothing else.
-use Rattle.std.proofs.Common.{◌≡◌, Bool, true, false, not, ◌||◌, List, [], ◌∷◌, Option, Some, None, is_some, Contains, find, cond, refl, sym, ap, ap₂, ◌∙◌}
+use Rattle.std.proofs.Common.{◌≡◌, Bool, false, not, ◌||◌, List, [], ◌∷◌, Option, Some, None, is_some, Contains, find, cond, refl, sym, ap, ap₂, ◌∙◌}
 use Rattle.std.specs.List.{list_any}
 use Rattle.std.proofs.lemmas.Bool.{false≢true}
 use Rattle.std.proofs.lemmas.List.Elements.{All-contains}
@@ -50,4 +50,4 @@ find_alike p q (x ∷ xs) h = ap₂ (λ b o. cond b (Some x) o) (h x (contains_h
 pub choice_alike : {X : Type 0} (before after : X → X → Bool) (xs : List X) → ((x y : X) → Contains xs x → Contains xs y → before x y ≡ after x y) → unpreceded before xs ≡ unpreceded after xs
 choice_alike before after xs same =
     find_alike (λ x. not (is_preceded before xs x)) (λ x. not (is_preceded after xs x)) xs
-        (λ x c. ap not (any_alike (λ y. before y x) (λ y. after y x) xs (λ y d. same y x d c)))
+    (λ x c. ap not (any_alike (λ y. before y x) (λ y. after y x) xs (λ y d. same y x d c)))

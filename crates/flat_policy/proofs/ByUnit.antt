@@ -1,6 +1,5 @@
 -- The pick in a lane, found by unit and then by entry.
-use Rattle.std.proofs.Common.{◌≡◌, ℕ, Bool, true, false, not, ◌||◌, cond, Contains, List, [], ◌∷◌, filter, find, Some, is_some, refl, sym, ap, ap₂, ◌∙◌, inl, inr}
-use Rattle.std.specs.List.{list_any}
+use Rattle.std.proofs.Common.{◌≡◌, ℕ, Bool, true, false, Contains, List, filter, Some, is_some, sym, ap, ap₂, ◌∙◌, inl, inr}
 use Rattle.std.proofs.lemmas.Bool.{cases_Bool, cond-false, cond-true}
 use Rattle.std.proofs.lemmas.List.Elements.{All-contains}
 use Rattle.bucket_tables.specs.declared.Lane.{Lane}
@@ -9,14 +8,14 @@ use Rattle.flat_policy.specs.Laws.Units.{IsFirstClutch}
 use Rattle.flat_policy.specs.Moves.{goes_before, pick_in}
 use Rattle.flat_policy.specs.Precedence.{clutch_precedes, in_one_unit, precedes, precedes_in_lane}
 use Rattle.flat_policy.specs.Queue.{Clutch, Flat, Queued, clutch_entries, clutch_of, has_entries, in_clutch, in_lane, lane, lane_entries}
-use Rattle.flat_policy.specs.Unpreceded.{IsUnpreceded, is_preceded, unpreceded}
+use Rattle.flat_policy.specs.Unpreceded.{IsUnpreceded, unpreceded}
 use Rattle.flat_policy.specs.WellFormed.{WellFormed}
 use Rattle.flat_policy.proofs.ByMembers.{choice_alike, order_within}
 use Rattle.flat_policy.proofs.Buckets.{in_clutch_parts, in_own_clutch, in_own_lane}
 use Rattle.flat_policy.proofs.Chosen.{has_from_member}
 use Rattle.flat_policy.proofs.Choice.{chosen_is, is_unpreceded, strict_from_order, there_under_strict}
 use Rattle.flat_policy.proofs.InLane.{UnboundOf, bound_alike, goes_alike, lane_member, lane_order, unit_same}
-use Rattle.flat_policy.proofs.Members.{all_from_members, any_from_member, contains_here, contains_later, filter_has, member_from_any, member_of_filter}
+use Rattle.flat_policy.proofs.Members.{all_from_members, any_from_member, filter_has, member_from_any, member_of_filter}
 use Rattle.flat_policy.proofs.PickIsOne.{pick_in_there, some_of}
 use Rattle.flat_policy.proofs.Picks.{first_in_lane, stands_in_lane}
 use Rattle.flat_policy.proofs.Precedes.{precedes_orders}
@@ -59,11 +58,11 @@ first_of_clutch s at k free f e u =
           let l = lane_member s at y c in
           let theirs : UnboundOf at.bucket y = (l.3 ∙ free, l.2) in
           elim (cases_Bool (in_one_unit y.facts e.facts)) [
-            inl one ↦ cond-true (in_one_unit y.facts e.facts) (precedes y e) (clutch_precedes s (clutch_of y.facts) (clutch_of e.facts)) one
+            | inl one ↦ cond-true (in_one_unit y.facts e.facts) (precedes y e) (clutch_precedes s (clutch_of y.facts) (clutch_of e.facts)) one
                 ∙ All-contains (λ z. precedes z e ≡ false) (clutch_entries s k) y u.first
-                    (filter_has (in_clutch k) s.entries y l.0
-                        (ap (λ (j : Clutch). in_clutch j y) (sym (unit_same at.bucket y e theirs ours one ∙ parts.1)) ∙ in_own_clutch y theirs.0))
-          | inr two ↦ cond-false (in_one_unit y.facts e.facts) (precedes y e) (clutch_precedes s (clutch_of y.facts) (clutch_of e.facts)) two
+                (filter_has (in_clutch k) s.entries y l.0
+                (ap (λ (j : Clutch). in_clutch j y) (sym (unit_same at.bucket y e theirs ours one ∙ parts.1)) ∙ in_own_clutch y theirs.0))
+            | inr two ↦ cond-false (in_one_unit y.facts e.facts) (precedes y e) (clutch_precedes s (clutch_of y.facts) (clutch_of e.facts)) two
                 ∙ (ap (λ (j : Clutch). clutch_precedes s (clutch_of y.facts) j) parts.1
                 ∙ f.first (clutch_of y.facts) l.2 (any_from_member (in_clutch (clutch_of y.facts)) s.entries y l.0 (in_own_clutch y theirs.0)))
           ]);
@@ -75,7 +74,7 @@ first_in_clutch groups s at k w free f =
     let m = member_from_any (in_clutch k) s.entries f.filled in
     let found = first_there (clutch_entries s k) o m.0 (filter_has (in_clutch k) s.entries m.0 m.1 m.2) in
     chosen_is (precedes_in_lane s) (lane_entries s at) (lane_order groups s w at) found.0
-        (first_of_clutch s at k free f found.0 (is_unpreceded precedes (clutch_entries s k) found.0 found.1)) ∙ sym found.1
+    (first_of_clutch s at k free f found.0 (is_unpreceded precedes (clutch_entries s k) found.0 found.1)) ∙ sym found.1
 
 pub first_of_bound : (groups : ℕ) (s : Flat) (at : Lane) → WellFormed groups s → at.bound ≡ true → unpreceded (precedes_in_lane s) (lane_entries s at) ≡ unpreceded precedes (lane_entries s at)
 first_of_bound groups s at w bound =

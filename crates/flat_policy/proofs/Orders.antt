@@ -1,5 +1,5 @@
 -- The strict orders of lanes and of targets.
-use Rattle.std.proofs.Common.{◌≡◌, ℕ, ◌+◌, ◌*◌, ◌==◌, nat_lt, Bool, true, false, not, ◌&&◌, cond, Contains, List, [], ◌∷◌, map, refl, sym, ap, ◌∙◌, subst, arith, le-ltb}
+use Rattle.std.proofs.Common.{◌≡◌, ℕ, ◌+◌, ◌*◌, nat_lt, Bool, true, false, not, ◌&&◌, cond, Contains, List, [], ◌∷◌, map, refl, sym, ap, ◌∙◌, subst, arith, le-ltb}
 use Rattle.std.proofs.lemmas.Bool.{false≢true}
 use Rattle.sched_base.specs.Bucket.{index}
 use Rattle.bucket_tables.specs.declared.Lane.{Lane}
@@ -7,8 +7,7 @@ use Rattle.flat_policy.specs.Aim.{Target, lighter}
 use Rattle.flat_policy.specs.Laws.Choice.{OrdersMembers}
 use Rattle.flat_policy.specs.Laws.Orders.{LanesInOrder}
 use Rattle.flat_policy.specs.Queue.{Flat, LaneWindow, timeshare_lanes}
-use Rattle.flat_policy.specs.WellFormed.{WellFormed}
-use Rattle.flat_policy.specs.Windows.{due_before, stands_higher}
+use Rattle.flat_policy.specs.Windows.{stands_higher}
 use Rattle.flat_policy.proofs.Ascending.{Ascends, numbers_ascend, same_from_number}
 use Rattle.flat_policy.proofs.Chosen.{due_strict, higher_irreflexive, higher_transitive}
 use Rattle.flat_policy.proofs.KeptLanes.{lane_names}
@@ -25,8 +24,8 @@ map_map_numbers (l ∷ ls) = ap (λ ns. lane_number l.lane ∷ ns) (map_map_numb
 same_window : (ls : List LaneWindow) → lane_names ls ≡ timeshare_lanes → (x y : LaneWindow) → Contains ls x → Contains ls y → lane_number x.lane ≡ lane_number y.lane → x ≡ y
 same_window ls ten x y c d same =
     same_from_number (λ (l : LaneWindow). lane_number l.lane) ls
-        (subst Ascends (sym (map_map_numbers ls ∙ ap (λ names. map lane_number names) ten)) (numbers_ascend 2 10))
-        x y c d same
+    (subst Ascends (sym (map_map_numbers ls ∙ ap (λ names. map lane_number names) ten)) (numbers_ascend 2 10))
+    x y c d same
 
 bound_total : (a b : Bool) → (a && not b) ≡ false → (b && not a) ≡ false → a ≡ b
 bound_total true true h k = refl
@@ -65,7 +64,7 @@ targets_in_order xs = record {
   irreflexive = λ x c. by_number_irreflexive x.weighed (nat_lt x.cluster x.cluster) (le-ltb x.cluster x.cluster (omega arith));
   transitive = λ x y z c d e h k.
       rises_transitive x.weighed y.weighed z.weighed (nat_lt x.cluster y.cluster) (nat_lt y.cluster z.cluster) (nat_lt x.cluster z.cluster)
-          (λ p q. less_transitive x.cluster y.cluster z.cluster) h k;
+      (λ p q. less_transitive x.cluster y.cluster z.cluster) h k;
   total = λ x y c d h k.
       let t = rises_total x.weighed y.weighed (nat_lt x.cluster y.cluster) (nat_lt y.cluster x.cluster) h k in
       target_is x.cluster y.cluster x.weighed y.weighed (neither_less x.cluster y.cluster t.1 t.2) t.0;

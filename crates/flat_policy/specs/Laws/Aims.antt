@@ -17,5 +17,6 @@ pub record AimsRight (setup : SetupParts) (looks : List (Option Look)) (t : Fact
   pub looks_first : (c : ℕ) → aim setup looks t ≡ Err c → IsLowestUnseen setup looks t c
   pub refused : is_err (aim setup looks t) ≡ list_any (λ c. is_none (look_at looks c)) (needed setup t)
 
+-- every aim is right so
 abbrev pub AimMayBeEntered : Type 0
 AimMayBeEntered = (setup : SetupParts) (looks : List (Option Look)) (t : Facts) → AimsRight setup looks t

@@ -31,5 +31,6 @@ pub record StaysWithin (setup : SetupParts) (g : Game) : Type 0 where
   pub queued : sum_by (λ (s : Flat). length s.entries) g.flats ≤ live_count g.yard
   pub formed : setup.threads ≤ 4096 → (c : ℕ) → c < cluster_count setup → WellFormed (group_count setup) (flat_at g c)
 
+-- after every run it is so
 abbrev pub RunsStayWithin : Type 0
 RunsStayWithin = (setup : SetupParts) (history : List Entry) (end : Game) → GRun setup history end → StaysWithin setup end

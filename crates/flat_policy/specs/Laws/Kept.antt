@@ -22,5 +22,6 @@ pub record StaysWellFormed (setup : SetupParts) (s : Flat) : Type 0 where
   pub refreshing : (now : ℕ) → WellFormed (group_count setup) (refresh_event setup now s).flat
   pub powering : (on : Bool) (now : ℕ) → WellFormed (group_count setup) (power_event on now s).flat
 
+-- every step at a cluster keeps its queue well-formed
 abbrev pub StepsKeepWellFormed : Type 0
 StepsKeepWellFormed = (setup : SetupParts) (s : Flat) → WellFormed (group_count setup) s → StaysWellFormed setup s

@@ -14,6 +14,7 @@ pub record Offers (setup : SetupParts) (from to : ℕ) (s : Flat) : Type 0 where
   pub there : is_some (offered_between setup from to s)
       ≡ list_any (λ (e : Queued). may_take to (migrates setup from to) (mask_between setup from to s.on) e.facts) s.entries
 
+-- every well-formed queue offers so
 abbrev pub OffersWhatMayBeTaken : Type 0
 OffersWhatMayBeTaken = (groups : ℕ) (setup : SetupParts) (from to : ℕ) (s : Flat) → WellFormed groups s → Offers setup from to s
 
@@ -22,5 +23,6 @@ pub record OffersInOrder (to mask : ℕ) (s : Flat) : Type 0 where
   pub foreign : OrdersMembers foreign_before (filter (λ (e : Queued). prefers to e.facts) s.entries)
   pub masked : OrdersMembers (masked_before s) (filter (λ (e : Queued). is_masked mask e.facts) s.entries)
 
+-- so each offer of a well-formed queue has one answer
 abbrev pub OffersAreOne : Type 0
 OffersAreOne = (groups to mask : ℕ) (s : Flat) → WellFormed groups s → OffersInOrder to mask s

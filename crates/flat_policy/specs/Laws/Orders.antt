@@ -11,6 +11,7 @@ pub record LanesInOrder (s : Flat) : Type 0 where
   pub due : OrdersMembers due_before s.lanes
   pub higher : OrdersMembers (λ (x y : LaneWindow). stands_higher x.lane y.lane) s.lanes
 
+-- the lanes of every well-formed queue stand so
 abbrev pub LanesAreOrdered : Type 0
 LanesAreOrdered = (groups : ℕ) (s : Flat) → WellFormed groups s → LanesInOrder s
 

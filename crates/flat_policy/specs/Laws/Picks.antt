@@ -23,6 +23,7 @@ pub record ChoosesFilled (ts : List Times) (s : Flat) : Type 0 where
   pub there : is_some (chosen ts s) ≡ has_member s.entries
   pub filled : (c : Choice) → chosen ts s ≡ Some c → has_entries s c.lane ≡ true
 
+-- every well-formed queue chooses so
 abbrev pub ChoosesAFilledLane : Type 0
 ChoosesAFilledLane = (groups : ℕ) (ts : List Times) (s : Flat) → WellFormed groups s → ChoosesFilled ts s
 
@@ -39,5 +40,6 @@ pub record PicksOne (ts : List Times) (now : ℕ) (s : Flat) : Type 0 where
   pub picked : (e : Queued) → (pick ts now s ≡ Some e) ↔ IsPick ts now s e
   pub only : (e f : Queued) → IsPick ts now s e → IsPick ts now s f → e ≡ f
 
+-- every well-formed queue has one pick where it has entries
 abbrev pub PickIsOne : Type 0
 PickIsOne = (groups : ℕ) (ts : List Times) (now : ℕ) (s : Flat) → WellFormed groups s → PicksOne ts now s

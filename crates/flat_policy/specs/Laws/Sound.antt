@@ -35,9 +35,10 @@ pub record Sound (setup : SetupParts) (g : Game) : Type 0 where
   pub hands : (a : ℕ) → a < actor_count setup → HandFits setup (hand_at g a)
   pub yard : YardFits setup g.yard
 
--- the state before any step is sound, and each step that the setup fits keeps a state sound
+-- the state before any step is sound
 abbrev pub EmptyIsSound : Type 0
 EmptyIsSound = (setup : SetupParts) → Sound setup (empty_game setup)
 
+-- each step that the setup fits keeps a state sound
 abbrev pub StepsKeepSound : Type 0
 StepsKeepSound = (setup : SetupParts) (g : Game) (step : Step) → Sound setup g → IsTrue (fits_step setup step) → Sound setup (state_after setup g step)

@@ -18,5 +18,6 @@ pub record IsRefused (setup : SetupParts) (g : Game) (step : Step) (a : Answer) 
   pub thread : (reply setup g step).thread ≡ None
   pub game : state_after setup g step ≡ g
 
+-- each refusal is so
 abbrev pub RefusalsChangeNothing : Type 0
 RefusalsChangeNothing = (setup : SetupParts) (g : Game) (step : Step) (a : Answer) → refusal setup g step ≡ Some a → IsRefused setup g step a

@@ -18,11 +18,12 @@ pub record IsFirstClutch (s : Flat) (at : Lane) (k : Clutch) : Type 0 where
   pub filled : list_any (in_clutch k) s.entries ≡ true
   pub first : (l : Clutch) → l.bucket ≡ at.bucket → list_any (in_clutch l) s.entries ≡ true → clutch_precedes s l k ≡ false
 
--- the first of an unbound lane is the first of its first clutch bucket; that of a bound lane goes by entry alone
+-- the first of an unbound lane is the first of its first clutch bucket
 abbrev pub FirstStandsInClutch : Type 0
 FirstStandsInClutch = (groups : ℕ) (s : Flat) (at : Lane) (k : Clutch) → WellFormed groups s → at.bound ≡ false → IsFirstClutch s at k
     → unpreceded (precedes_in_lane s) (lane_entries s at) ≡ unpreceded precedes (clutch_entries s k)
 
+-- the first of a bound lane goes by entry alone
 abbrev pub FirstOfBoundLane : Type 0
 FirstOfBoundLane = (groups : ℕ) (s : Flat) (at : Lane) → WellFormed groups s → at.bound ≡ true
     → unpreceded (precedes_in_lane s) (lane_entries s at) ≡ unpreceded precedes (lane_entries s at)
