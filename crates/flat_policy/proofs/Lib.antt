@@ -1,38 +1,47 @@
-pub mod Members
-pub mod Choice
-pub mod ByMembers
-pub mod Windows
-pub mod Lexical
-pub mod Entries
-pub mod Precedes
+mod SetupBuilt
+mod SetupEdges
+mod SetupFields
+mod SetupOrdinary
+mod SetupParts
+mod SetupRows
+mod SetupTimeRows
+mod SetupTimes
+pub mod Accepted
+pub mod After
+pub mod Aims
+pub mod Ascending
 pub mod Buckets
-pub mod Units
-pub mod InLane
-pub mod Greatest
+pub mod ByMembers
+pub mod ByUnit
+pub mod Choice
 pub mod Chosen
 pub mod ChosenLane
-pub mod Picks
-pub mod PickIsOne
-pub mod KeptLanes
-pub mod Parts
-pub mod Turns
-pub mod Wholes
 pub mod Enters
-pub mod Leaves
-pub mod Refreshes
-pub mod Refreshed
-pub mod After
-pub mod Kept
-pub mod StepsKeep
-pub mod Offers
-pub mod Aims
-pub mod Placed
-pub mod SoundParts
-pub mod Moved
+pub mod Entries
+pub mod Greatest
 pub mod HandMoves
-pub mod YardMoves
-pub mod Accepted
-pub mod Runs
-pub mod Ascending
+pub mod InLane
+pub mod Kept
+pub mod KeptLanes
+pub mod Leaves
+pub mod Lexical
+pub mod Members
+pub mod Moved
+pub mod Offers
 pub mod Orders
-pub mod ByUnit
+pub mod Parts
+pub mod PickIsOne
+pub mod Picks
+pub mod Placed
+pub mod Precedes
+pub mod Refreshed
+pub mod Refreshes
+pub mod Runs
+pub mod SetupLaws
+pub mod SoundParts
+pub mod StepsKeep
+pub mod Turns
+pub mod Units
+pub mod Wholes
+pub mod Windows
+pub mod YardMoves
