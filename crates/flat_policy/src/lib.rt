@@ -1,10 +1,10 @@
-//! The rules of the flat policy, as definitions in `specs`.
-//!
-//! For now they cover threads of one group and one bucket that used nothing and enter one cluster
-//! at the tail. All times are whole microseconds.
+//! The flat policy: the definitions that every contract cites, the setup, and journals.
 #![tactic(auto)]
 
+pub mod examples;
+pub mod journal;
+pub mod lanes;
 pub mod laws;
-pub mod queue;
-
-pub use queue::Queued;
+pub mod rows;
+pub mod setup;
+pub mod texts;

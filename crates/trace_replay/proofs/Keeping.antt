@@ -3,8 +3,8 @@ use Rattle.std.proofs.Common.{◌≡◌, ℕ, ◌+◌, ◌<◌, zero, suc, refl,
 use Rattle.std.proofs.lemmas.Bool.{cases_Bool}
 use Rattle.std.proofs.lemmas.Option.{slice_get_read}
 use Rattle.std.proofs.lemmas.Bool.Decides.{nat_tests}
-use Rattle.flat_policy.specs.declared.queue.Queued.{Queued}
-use Rattle.flat_policy.specs.FirstForm.{Above, Rising, pick, without}
+use Rattle.trace_replay.specs.declared.queue.Queued.{Queued}
+use Rattle.trace_replay.specs.FirstForm.{Above, Rising, pick, without}
 use Rattle.trace_replay.specs.Kept.{Below}
 
 -- a list below n goes on with an arrival at n

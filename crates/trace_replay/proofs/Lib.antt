@@ -3,6 +3,7 @@ pub mod Digits
 pub mod Keeping
 pub mod Meets
 pub mod Picking
+pub mod Picks
 pub mod Progress
 pub mod Runs
 pub mod Spelling

@@ -1,8 +1,8 @@
 -- The scan for the pick, and its selection.
 use Rattle.std.proofs.Common.{◌≡◌, ℕ, ◌+◌, ◌<◌, ◌⊎◌, inl, inr, refl, sym, ◌∙◌, ap, suc, Bor, Option, None, Some, IfSome, List, ◌∷◌, length, get_or, slice_get, drop, fold, drop-cons, add-one, arith}
 use Rattle.std.specs.Prelude.{IsSomeAnd}
-use Rattle.flat_policy.specs.declared.queue.Queued.{Queued}
-use Rattle.flat_policy.specs.FirstForm.{better}
+use Rattle.trace_replay.specs.declared.queue.Queued.{Queued}
+use Rattle.trace_replay.specs.FirstForm.{better}
 
 -- a scan goes on by one entry
 pub scan_more : (b : Option Queued) (xs : List Queued) (i : ℕ) (x : Queued) → i < length xs → x ≡ get_or xs i x → fold better b (drop i xs) ≡ fold better (better b x) (drop (i + 1) xs)

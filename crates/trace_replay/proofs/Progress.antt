@@ -7,7 +7,7 @@ use Rattle.std.proofs.lemmas.Bool.{eqb-true}
 use Rattle.std.proofs.lemmas.Bool.Decides.{nat_tests}
 use Rattle.sched_base.specs.declared.steps.Answer.{Answer}
 use Rattle.sched_base.specs.declared.steps.Step.{Step}
-use Rattle.flat_policy.specs.FirstGame.{Game, empty, outcome}
+use Rattle.trace_replay.specs.FirstGame.{Game, empty, outcome}
 use Rattle.trace_replay.specs.Texts.{IsInForm, step_line, output_line}
 use Rattle.trace_replay.specs.Replay.{lines_of, after, timed, written, AreAnswered, IsOutside}
 use Rattle.trace_replay.proofs.Spelling.{one_step}

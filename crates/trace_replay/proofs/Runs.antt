@@ -5,7 +5,7 @@ use Rattle.std.specs.List.{AllByRecursion}
 use Rattle.std.specs.Option.{option_and_then, option_map_or}
 use Rattle.sched_base.specs.declared.steps.Answer.{Answer}
 use Rattle.sched_base.specs.declared.steps.Step.{Step}
-use Rattle.flat_policy.specs.FirstGame.{Game, outcome}
+use Rattle.trace_replay.specs.FirstGame.{Game, outcome}
 use Rattle.trace_replay.specs.Texts.{IsInForm, step_text, step_line, output_line}
 use Rattle.trace_replay.specs.Replay.{lines_of, after, timed, written}
 

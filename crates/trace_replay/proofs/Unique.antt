@@ -5,7 +5,7 @@ use Rattle.std.specs.Option.{option_and_then}
 use Rattle.std.proofs.lemmas.List.{append-nil, append_cancel_left}
 use Rattle.sched_base.specs.declared.steps.Answer.{Answer}
 use Rattle.sched_base.specs.declared.steps.Step.{Step}
-use Rattle.flat_policy.specs.FirstGame.{Game, empty, outcome}
+use Rattle.trace_replay.specs.FirstGame.{Game, empty, outcome}
 use Rattle.trace_replay.specs.Texts.{IsInForm, step_line}
 use Rattle.trace_replay.specs.Replay.{setup_line, lines_of, after, AreAnswered, IsInput, StopsAfter, IsOutside, IsFirstOutside}
 use Rattle.trace_replay.proofs.Spelling.{one_step}

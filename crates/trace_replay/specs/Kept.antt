@@ -1,8 +1,8 @@
 -- What the machine's fields keep.
 use Rattle.std.specs.Prelude.{ℕ, ◌+◌, ◌≤◌, ◌<◌, ◌^◌, List, [], ◌∷◌, length, vec_capacity, Option, None, Some}
 use Rattle.sched_base.specs.declared.facts.Facts.{Facts}
-use Rattle.flat_policy.specs.declared.queue.Queued.{Queued}
-use Rattle.flat_policy.specs.FirstForm.{Rising}
+use Rattle.trace_replay.specs.declared.queue.Queued.{Queued}
+use Rattle.trace_replay.specs.FirstForm.{Rising}
 use Rattle.trace_replay.specs.declared.machine.Machine.TheInside.{Inside}
 
 -- every arrival number of the list is below n

@@ -1,4 +1,6 @@
 -- What contracts cite.
+pub mod FirstForm
+pub mod FirstGame
 pub mod Kept
 pub mod Outflow
 pub mod Reading

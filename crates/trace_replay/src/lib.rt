@@ -6,8 +6,10 @@
 #![tactic(auto)]
 
 mod intake;
+pub mod laws;
 mod machine;
 mod outflow;
+mod queue;
 mod reading;
 mod replay;
 mod status;

@@ -1,11 +1,11 @@
 //! The machine: one cluster's queue, and the hand of its one actor.
 
 ghost use Rattle.std.specs.Prelude.{◌≡◌, ◌≤◌, ◌<◌, ◌+◌, ◌^◌, length, Some, None, IsNone, IfSome, IfNone, IfOk, IsSomeAnd, IsTrue, slice_get, option_map, ◌⊎◌};
-ghost use Rattle.flat_policy.specs.FirstForm.{pick, better, precedes};
-ghost use Rattle.flat_policy.specs.FirstGame.{empty, effective, outcome, made_at, entered_at, selected_at, may_make};
+ghost use Rattle.trace_replay.specs.FirstForm.{pick, better, precedes};
+ghost use Rattle.trace_replay.specs.FirstGame.{empty, effective, outcome, made_at, entered_at, selected_at, may_make};
 ghost use Rattle.trace_replay.specs.Texts.{IsInForm};
 
-use flat_policy::Queued;
+use crate::queue::Queued;
 use sched_base::{Act, Answer, Step, Thread};
 use std::alloc::{AllocError, Global};
 use std::marker::Model;
@@ -27,7 +27,7 @@ pub struct Machine {
 }
 
 impl Model for Machine {
-    ghost use Rattle.flat_policy.specs.FirstGame.{Game};
+    ghost use Rattle.trace_replay.specs.FirstGame.{Game};
     ghost use Rattle.trace_replay.specs.Kept.{IsKept};
 
     ghost Value = { Game };

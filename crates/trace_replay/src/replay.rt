@@ -3,7 +3,7 @@
 ghost use Rattle.std.specs.Prelude.{◌≡◌, ℕ, ◌≤◌, ◌<◌, ◌↔◌, ◌++◌, List, length, OnOk, IfOk, IfErr, IfSome, string_bytes};
 ghost use Rattle.sched_base.specs.declared.steps.Step.{Step};
 ghost use Rattle.ports.specs.Devices.{Rose};
-ghost use Rattle.flat_policy.specs.FirstGame.{empty};
+ghost use Rattle.trace_replay.specs.FirstGame.{empty};
 ghost use Rattle.trace_replay.specs.Replay.{lines_of, written, AreAnswered, IsInput, output_of, IsOutside, IsFirstOutside, Says, IsUncut, IsSilent, IsJudged, IsWhole, HasTaken};
 ghost use Rattle.trace_replay.specs.Outflow.{AppendsPart};
 ghost use Rattle.std.specs.Io.KnownBytes.{Appends, IsAtEnd};

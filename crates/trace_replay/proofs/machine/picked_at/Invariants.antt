@@ -1,7 +1,7 @@
 use Rattle.std.proofs.Common.{◌≡◌, ◌<◌, IfSome, Some, drop, length, slice_get}
 use Rattle.std.specs.Prelude.{fold}
 use Rattle.std.specs.Option.{option_map}
-use Rattle.flat_policy.specs.FirstForm.{better, pick}
+use Rattle.trace_replay.specs.FirstForm.{better, pick}
 use Rattle.trace_replay.proofs.machine.picked_at.Given as goal
 
 -- the rest, after the best so far, leads to the pick of all; the best stands at its place

@@ -1,6 +1,6 @@
 use Rattle.std.proofs.Common.{◌≡◌, ◌++◌, List, ℕ, inr, ◌∙◌, ap}
 use Rattle.trace_replay.specs.Replay.{setup_line, written}
-use Rattle.flat_policy.specs.FirstGame.{empty}
+use Rattle.trace_replay.specs.FirstGame.{empty}
 use Rattle.trace_replay.proofs.Spelling.{prefix_is}
 use Rattle.trace_replay.proofs.replay.replayed.Goals as goal
 

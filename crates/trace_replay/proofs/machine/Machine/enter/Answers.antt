@@ -1,5 +1,5 @@
 use Rattle.std.proofs.Common.{◌≡◌, sym, ◌∙◌, ap, arith, refl, length-append}
-use Rattle.flat_policy.specs.declared.queue.Queued.{Queued}
+use Rattle.trace_replay.specs.declared.queue.Queued.{Queued}
 use Rattle.trace_replay.specs.Kept.{held}
 use Rattle.trace_replay.proofs.Keeping.{rising_more, below_more}
 use Rattle.trace_replay.proofs.machine.Machine.enter.Goals as goal

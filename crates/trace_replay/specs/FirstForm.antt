@@ -1,6 +1,6 @@
--- A queue of one unit: entries of one group and bucket, in order of arrival.
+-- Temporary, until the machine over the whole policy is here. A queue of one unit: entries of one group and bucket, in order of arrival.
 use Rattle.std.specs.Prelude.{◌≡◌, ℕ, ◌<◌, ◌⊎◌, Bool, false, ◌==◌, ◌||◌, ◌&&◌, not, nat_lt, Option, None, Some, List, [], ◌∷◌, fold, filter, if◌then◌else◌}
-use Rattle.flat_policy.specs.declared.queue.Queued.{Queued}
+use Rattle.trace_replay.specs.declared.queue.Queued.{Queued}
 
 -- every arrival number of the list is above n
 abbrev pub Above : ℕ → List Queued → Type 0

@@ -1,4 +1,4 @@
--- The machine of one cluster and one actor, for threads that used nothing.
+-- Temporary, until the machine over the whole policy is here: the machine of one cluster and one actor, for threads that used nothing.
 use Rattle.std.specs.Prelude.{ℕ, ◌+◌, Bool, false, nat_lt, max, Option, None, Some, List, [], ◌∷◌, ◌++◌, length, if◌then◌else◌, is_some, ◌==◌}
 use Rattle.std.specs.List.{list_any}
 use Rattle.sched_base.specs.Facts.{fresh, settled}
@@ -8,8 +8,8 @@ use Rattle.sched_base.specs.declared.steps.Act.TheVariants.{Make, Enter, Select}
 use Rattle.sched_base.specs.declared.steps.Answer.{Answer}
 use Rattle.sched_base.specs.declared.steps.Answer.TheVariants.{Yes, Pri, Got, Empty}
 use Rattle.sched_base.specs.declared.steps.Step.{Step}
-use Rattle.flat_policy.specs.declared.queue.Queued.{Queued}
-use Rattle.flat_policy.specs.FirstForm.{pick, without}
+use Rattle.trace_replay.specs.declared.queue.Queued.{Queued}
+use Rattle.trace_replay.specs.FirstForm.{pick, without}
 
 -- the cluster's queue, the actor's hand, the names that were made, and the last moments
 pub record Game : Type 0 where

@@ -1,0 +1,448 @@
+-- The machine: a queue for each cluster, a hand for each actor, and the yard of blocked and ended threads. Every step has one reply.
+use Rattle.std.specs.List.{list_any}
+use Rattle.std.specs.Option.{option_map_or}
+use Rattle.std.specs.Prelude.{Bool, Err, IsTrue, List, None, Ok, Option, Result, Some, [], count_by, false, filter, find, if◌then◌else◌, is_none, is_some, length, max, nat_le, nat_lt, not, replicate, slice_index_or, slice_set, sum_by, true, unwrap_or, ℕ, ◌&&◌, ◌++◌, ◌+◌, ◌-◌, ◌==◌, ◌^◌, ◌∷◌, ◌≡◌}
+use Rattle.sched_base.specs.Facts.{charged, fresh, rested}
+use Rattle.sched_base.specs.declared.Act.{Act}
+use Rattle.sched_base.specs.declared.Answer.{Answer}
+use Rattle.sched_base.specs.declared.Bucket.{Bucket}
+use Rattle.sched_base.specs.declared.Entry.{Entry}
+use Rattle.sched_base.specs.declared.Facts.{Facts}
+use Rattle.sched_base.specs.declared.Place.{Place}
+use Rattle.sched_base.specs.declared.Spot.{Spot}
+use Rattle.sched_base.specs.declared.Step.{Step}
+use Rattle.flat_policy.specs.Aim.{Look, aim, dark, loaded, may_enter, not_looked}
+use Rattle.flat_policy.specs.ClusterSteps.{Event, enter_event, look_event, named_entry, offer_event, power_event, pull_event, refresh_event, select_event}
+use Rattle.flat_policy.specs.Queue.{Flat, Queued, empty_flat}
+use Rattle.flat_policy.specs.Setup.{SetupParts, actor_count, cluster_count, group_count, home_of, preferred_cluster, rate_of}
+use Rattle.sched_base.specs.declared.Act.TheVariants as acts
+use Rattle.sched_base.specs.declared.Answer.TheVariants as answers
+use Rattle.sched_base.specs.declared.Place.TheVariants as places
+use Rattle.sched_base.specs.declared.Spot.TheVariants as spots
+
+-- an actor's hand: its thread, its looks by cluster since it was filled, and the actor's last moment
+pub record Hand : Type 0 where
+  pub thread : Option Facts
+  pub looks : List (Option Look)
+  pub last : ℕ
+
+-- a blocked thread, and when it went to sleep
+pub record Sleeper : Type 0 where
+  pub facts : Facts
+  pub since : ℕ
+
+-- the yard: the blocked threads, the names ended, the names ever made, and its last moment
+pub record Yard : Type 0 where
+  pub blocked : List Sleeper
+  pub ended : List ℕ
+  pub made : List ℕ
+  pub last : ℕ
+
+-- the whole state
+pub record Game : Type 0 where
+  pub flats : List Flat
+  pub hands : List Hand
+  pub yard : Yard
+
+-- looks at no cluster
+abbrev pub no_looks : SetupParts → List (Option Look)
+no_looks setup = replicate (cluster_count setup) None
+
+-- a hand that holds nothing
+abbrev pub empty_hand : SetupParts → ℕ → Hand
+empty_hand setup last = record { thread = None; looks = no_looks setup; last = last }
+
+-- the machine before any step
+abbrev pub empty_yard : Yard
+empty_yard = record { blocked = []; ended = []; made = []; last = 0 }
+
+abbrev pub empty_game : SetupParts → Game
+empty_game setup = record {
+  flats = replicate (cluster_count setup) (empty_flat (group_count setup));
+  hands = replicate (actor_count setup) (empty_hand setup 0);
+  yard = empty_yard;
+}
+
+-- the queue of a cluster, and the hand of an actor
+abbrev pub flat_at : Game → ℕ → Flat
+flat_at g c = slice_index_or g.flats c (empty_flat 0)
+
+abbrev pub no_hand : Hand
+no_hand = record { thread = None; looks = []; last = 0 }
+
+abbrev pub hand_at : Game → ℕ → Hand
+hand_at g a = slice_index_or g.hands a no_hand
+
+-- the place of a step: a cluster, the yard, or none
+abbrev pub spot_by : SetupParts → ℕ → Act → Option Spot
+spot_by setup actor (acts.Make name group bucket base bound) = Some spots.Yard
+spot_by setup actor (acts.Enter c head) = Some (spots.Cluster c)
+spot_by setup actor acts.Select = Some (spots.Cluster (home_of setup actor))
+spot_by setup actor (acts.Offer c) = Some (spots.Cluster c)
+spot_by setup actor (acts.Pull name) = Some (spots.Cluster (home_of setup actor))
+spot_by setup actor (acts.Look c) = Some (spots.Cluster c)
+spot_by setup actor acts.Aim = None
+spot_by setup actor (acts.Ran us) = None
+spot_by setup actor acts.Sleep = Some spots.Yard
+spot_by setup actor (acts.Wake name) = Some spots.Yard
+spot_by setup actor acts.End = Some spots.Yard
+spot_by setup actor acts.Blocked = Some spots.Yard
+spot_by setup actor acts.Refresh = Some (spots.Cluster (home_of setup actor))
+spot_by setup actor (acts.Off c) = Some (spots.Cluster c)
+spot_by setup actor (acts.On c) = Some (spots.Cluster c)
+
+abbrev pub spot_of : SetupParts → Step → Option Spot
+spot_of setup step = spot_by setup step.actor step.act
+
+-- the last moment of a place, 0 for none
+abbrev pub last_at : Game → Option Spot → ℕ
+last_at g None = 0
+last_at g (Some (spots.Cluster c)) = (flat_at g c).last
+last_at g (Some spots.Yard) = g.yard.last
+
+-- the effective moment: the greatest of the handed one, the actor's last and the place's last
+abbrev pub effective_moment : SetupParts → Game → Step → ℕ
+effective_moment setup g step = max (max step.moment (hand_at g step.actor).last) (last_at g (spot_of setup step))
+
+-- where a name stands: the first of the queues, then the hands, then the yard that has it
+abbrev pub queued_in : List Flat → ℕ → ℕ → Option Place
+queued_in [] c name = None
+queued_in (s ∷ ss) c name = if is_some (named_entry s name) then Some (places.Queue c) else queued_in ss (c + 1) name
+
+abbrev pub holds : ℕ → Option Facts → Bool
+holds name None = false
+holds name (Some t) = t.name == name
+
+abbrev pub held_by : List Hand → ℕ → ℕ → Option Place
+held_by [] a name = None
+held_by (h ∷ hs) a name = if holds name h.thread then Some (places.Hand a) else held_by hs (a + 1) name
+
+abbrev pub is_blocked : Yard → ℕ → Bool
+is_blocked y name = list_any (λ (w : Sleeper). w.facts.name == name) y.blocked
+
+abbrev pub in_yard : Yard → ℕ → Place
+in_yard y name = if is_blocked y name then places.Blocked else (if list_any (λ n. n == name) y.ended then places.Ended else places.Nowhere)
+
+abbrev pub place_of : Game → ℕ → Place
+place_of g name = unwrap_or (queued_in g.flats 0 name) (unwrap_or (held_by g.hands 0 name) (in_yard g.yard name))
+
+-- a refusal, and whether its condition holds
+pub record Refusal : Type 0 where
+  pub holds : Bool
+  pub answer : Answer
+
+abbrev pub refuse : Bool → Answer → Refusal
+refuse holds answer = record { holds = holds; answer = answer }
+
+-- the first refusal whose condition holds
+abbrev pub first_refusal : List Refusal → Option Answer
+first_refusal [] = None
+first_refusal (r ∷ rs) = if r.holds then Some r.answer else first_refusal rs
+
+-- the conditions of refusals: of the hand, of names, and of the number of live threads
+abbrev pub hand_full : Hand → Refusal
+hand_full h = refuse (is_some h.thread) answers.HandFull
+
+abbrev pub hand_empty : Hand → Refusal
+hand_empty h = refuse (is_none h.thread) answers.HandEmpty
+
+abbrev pub live_count : Yard → ℕ
+live_count y = length y.made - length y.ended
+
+abbrev pub name_used : Yard → ℕ → Refusal
+name_used y name = refuse (list_any (λ n. n == name) y.made) answers.NameUsed
+
+abbrev pub no_room : SetupParts → Yard → Refusal
+no_room setup y = refuse (nat_le setup.threads (live_count y)) answers.NoRoom
+
+-- the thread of a hand may not enter the cluster
+abbrev pub not_allowed : SetupParts → Option Facts → ℕ → Refusal
+not_allowed setup None c = refuse false answers.NotAllowed
+not_allowed setup (Some t) c = refuse (not (may_enter setup t c)) answers.NotAllowed
+
+-- the name does not stand in the home's queue
+abbrev pub not_queued : Game → Flat → ℕ → Refusal
+not_queued g s name = refuse (is_none (named_entry s name)) (answers.NotQueued (place_of g name))
+
+-- the name is not blocked
+abbrev pub not_blocked : Game → ℕ → Refusal
+not_blocked g name = refuse (not (is_blocked g.yard name)) (answers.NotBlocked (place_of g name))
+
+-- the aim needs a look
+abbrev pub look_first_by : Option ℕ → Refusal
+look_first_by None = refuse false answers.HandEmpty
+look_first_by (Some c) = refuse true (answers.LookFirst c)
+
+abbrev pub look_first : SetupParts → Hand → Option Facts → Refusal
+look_first setup h None = refuse false answers.HandEmpty
+look_first setup h (Some t) = look_first_by (not_looked setup h.looks t)
+
+-- the refusals of each step, in their order
+abbrev pub refusals_by : SetupParts → Game → ℕ → Hand → Act → List Refusal
+refusals_by setup g a h (acts.Make name group bucket base bound) = hand_full h ∷ name_used g.yard name ∷ no_room setup g.yard ∷ []
+refusals_by setup g a h (acts.Enter c head) = hand_empty h ∷ not_allowed setup h.thread c ∷ []
+refusals_by setup g a h acts.Select = hand_full h ∷ []
+refusals_by setup g a h (acts.Offer c) = hand_full h ∷ refuse (c == home_of setup a) answers.OwnCluster ∷ []
+refusals_by setup g a h (acts.Pull name) = hand_full h ∷ not_queued g (flat_at g (home_of setup a)) name ∷ []
+refusals_by setup g a h (acts.Look c) = hand_empty h ∷ []
+refusals_by setup g a h acts.Aim = hand_empty h ∷ look_first setup h h.thread ∷ []
+refusals_by setup g a h (acts.Ran us) = hand_empty h ∷ []
+refusals_by setup g a h acts.Sleep = hand_empty h ∷ []
+refusals_by setup g a h (acts.Wake name) = hand_full h ∷ not_blocked g name ∷ []
+refusals_by setup g a h acts.End = hand_empty h ∷ []
+refusals_by setup g a h acts.Blocked = []
+refusals_by setup g a h acts.Refresh = []
+refusals_by setup g a h (acts.Off c) = []
+refusals_by setup g a h (acts.On c) = []
+
+-- the refusal of a step, where it is refused
+abbrev pub refusal : SetupParts → Game → Step → Option Answer
+refusal setup g step = first_refusal (refusals_by setup g step.actor (hand_at g step.actor) step.act)
+
+-- a hand after its actor's step: filled or emptied, which forgets its looks, or as it was with another last moment
+abbrev pub filled_hand : SetupParts → Facts → ℕ → Hand
+filled_hand setup t now = record { thread = Some t; looks = no_looks setup; last = now }
+
+abbrev pub kept_hand : Hand → ℕ → Hand
+kept_hand h now = record h { last = now }
+
+abbrev pub taking_hand : SetupParts → Hand → Option Facts → ℕ → Hand
+taking_hand setup h None now = kept_hand h now
+taking_hand setup h (Some t) now = filled_hand setup t now
+
+-- a look, as the answer tells it
+abbrev pub seen_look : Answer → Look
+seen_look (answers.Load l) = loaded l
+seen_look _ = dark
+
+abbrev pub looked_hand : Hand → ℕ → Answer → ℕ → Hand
+looked_hand h c answer now = record h { looks = slice_set h.looks c (Some (seen_look answer)); last = now }
+
+-- one hand, one queue, or the yard changes
+abbrev pub with_hand : ℕ → Hand → Game → Game
+with_hand a h g = record g { hands = slice_set g.hands a h }
+
+abbrev pub with_flat : ℕ → Flat → Game → Game
+with_flat c s g = record g { flats = slice_set g.flats c s }
+
+abbrev pub with_yard : Yard → Game → Game
+with_yard y g = record g { yard = y }
+
+-- what an accepted step comes to
+pub record Outcome : Type 0 where
+  pub answer : Answer
+  pub thread : Option Facts
+  pub game : Game
+
+-- a step at a cluster that puts what it takes into the actor's hand
+abbrev pub taking : SetupParts → Game → ℕ → Hand → ℕ → ℕ → Event → Outcome
+taking setup g a h c now e =
+    record { answer = e.answer; thread = e.thread; game = with_hand a (taking_hand setup h e.thread now) (with_flat c e.flat g) }
+
+-- a step at a cluster that leaves the hand's thread and looks
+abbrev pub leaving_hand : Game → ℕ → Hand → ℕ → ℕ → Event → Outcome
+leaving_hand g a h c now e = record { answer = e.answer; thread = None; game = with_hand a (kept_hand h now) (with_flat c e.flat g) }
+
+-- a step that has no effect; no accepted step comes to it
+abbrev pub nothing_done : Game → Outcome
+nothing_done g = record { answer = answers.Yes; thread = None; game = g }
+
+-- making a thread
+abbrev pub made_thread : SetupParts → ℕ → ℕ → Bucket → ℕ → Option ℕ → ℕ → Facts
+made_thread setup name group bucket base bound now =
+    fresh name group bucket base bound (unwrap_or bound (preferred_cluster setup group bucket)) now
+
+abbrev pub make_outcome : SetupParts → Game → ℕ → ℕ → Facts → Outcome
+make_outcome setup g a now t = record {
+  answer = answers.Yes;
+  thread = Some t;
+  game = with_hand a (filled_hand setup t now) (with_yard (record g.yard { made = g.yard.made ++ t.name ∷ []; last = now }) g);
+}
+
+-- entering a cluster's queue with the hand's thread
+abbrev pub enter_outcome_by : SetupParts → Game → ℕ → ℕ → ℕ → Event → Outcome
+enter_outcome_by setup g a c now e =
+    record { answer = e.answer; thread = e.thread; game = with_hand a (empty_hand setup now) (with_flat c e.flat g) }
+
+abbrev pub enter_outcome : SetupParts → Game → ℕ → ℕ → Bool → ℕ → Option Facts → Outcome
+enter_outcome setup g a c head now None = nothing_done g
+enter_outcome setup g a c head now (Some t) = enter_outcome_by setup g a c now (enter_event setup c t head now (flat_at g c))
+
+-- pulling a named thread
+abbrev pub pull_outcome : SetupParts → Game → ℕ → Hand → ℕ → ℕ → Option Queued → Outcome
+pull_outcome setup g a h c now None = nothing_done g
+pull_outcome setup g a h c now (Some e) = taking setup g a h c now (pull_event e now (flat_at g c))
+
+-- looking at a cluster for the hand's bucket
+abbrev pub look_outcome_by : Game → ℕ → Hand → ℕ → ℕ → Event → Outcome
+look_outcome_by g a h c now e = record { answer = e.answer; thread = None; game = with_hand a (looked_hand h c e.answer now) (with_flat c e.flat g) }
+
+abbrev pub look_outcome : SetupParts → Game → ℕ → Hand → ℕ → ℕ → Option Facts → Outcome
+look_outcome setup g a h c now None = nothing_done g
+look_outcome setup g a h c now (Some t) = look_outcome_by g a h c now (look_event setup c t.bucket now (flat_at g c))
+
+-- the aim as an answer
+abbrev pub aim_answer : Result ℕ ℕ → Answer
+aim_answer (Ok c) = answers.To c
+aim_answer (Err c) = answers.LookFirst c
+
+abbrev pub aim_outcome : SetupParts → Game → ℕ → Hand → ℕ → Option Facts → Outcome
+aim_outcome setup g a h now None = nothing_done g
+aim_outcome setup g a h now (Some t) =
+    record { answer = aim_answer (aim setup h.looks t); thread = None; game = with_hand a (kept_hand h now) g }
+
+-- charging the hand's thread
+abbrev pub ran_outcome_by : Game → ℕ → Hand → ℕ → Facts → Outcome
+ran_outcome_by g a h now t = record { answer = answers.Work t.work; thread = Some t; game = with_hand a (record h { thread = Some t; last = now }) g }
+
+abbrev pub ran_outcome : SetupParts → Game → ℕ → Hand → ℕ → ℕ → Option Facts → Outcome
+ran_outcome setup g a h us now None = nothing_done g
+ran_outcome setup g a h us now (Some t) = ran_outcome_by g a h now (charged us (rate_of setup (home_of setup a)) t)
+
+-- putting the hand's thread among the blocked ones
+abbrev pub sleep_outcome : SetupParts → Game → ℕ → ℕ → Option Facts → Outcome
+sleep_outcome setup g a now None = nothing_done g
+sleep_outcome setup g a now (Some t) = record {
+  answer = answers.Yes;
+  thread = Some t;
+  game = with_hand a (empty_hand setup now)
+      (with_yard (record g.yard { blocked = g.yard.blocked ++ record { facts = t; since = now } ∷ []; last = now }) g);
+}
+
+-- the blocked thread of a name
+abbrev pub sleeper_of : Yard → ℕ → Option Sleeper
+sleeper_of y name = find (λ (w : Sleeper). w.facts.name == name) y.blocked
+
+-- the blocked threads without that of a name
+abbrev pub sleepers_without : ℕ → List Sleeper → List Sleeper
+sleepers_without name ws = filter (λ (w : Sleeper). not (w.facts.name == name)) ws
+
+-- waking a blocked thread: the span since it went to sleep is to be counted
+abbrev pub wake_outcome_by : SetupParts → Game → ℕ → ℕ → Facts → Outcome
+wake_outcome_by setup g a now t = record {
+  answer = answers.Yes;
+  thread = Some t;
+  game = with_hand a (filled_hand setup t now)
+      (with_yard (record g.yard { blocked = sleepers_without t.name g.yard.blocked; last = now }) g);
+}
+
+abbrev pub wake_outcome : SetupParts → Game → ℕ → ℕ → Option Sleeper → Outcome
+wake_outcome setup g a now None = nothing_done g
+wake_outcome setup g a now (Some w) = wake_outcome_by setup g a now (rested (now - w.since) w.facts)
+
+-- ending the hand's thread
+abbrev pub end_outcome : SetupParts → Game → ℕ → ℕ → Option Facts → Outcome
+end_outcome setup g a now None = nothing_done g
+end_outcome setup g a now (Some t) = record {
+  answer = answers.Yes;
+  thread = Some t;
+  game = with_hand a (empty_hand setup now) (with_yard (record g.yard { ended = g.yard.ended ++ t.name ∷ []; last = now }) g);
+}
+
+-- counting the blocked threads
+abbrev pub blocked_outcome : Game → ℕ → Hand → ℕ → Outcome
+blocked_outcome g a h now = record {
+  answer = answers.Left (length g.yard.blocked);
+  thread = None;
+  game = with_hand a (kept_hand h now) (with_yard (record g.yard { last = now }) g);
+}
+
+-- what each accepted step comes to
+abbrev pub accepted_by : SetupParts → Game → ℕ → Hand → ℕ → Act → Outcome
+accepted_by setup g a h now (acts.Make name group bucket base bound) = make_outcome setup g a now (made_thread setup name group bucket base bound now)
+accepted_by setup g a h now (acts.Enter c head) = enter_outcome setup g a c head now h.thread
+accepted_by setup g a h now acts.Select =
+    taking setup g a h (home_of setup a) now (select_event setup (home_of setup a) now (flat_at g (home_of setup a)))
+accepted_by setup g a h now (acts.Offer c) = taking setup g a h c now (offer_event setup c (home_of setup a) now (flat_at g c))
+accepted_by setup g a h now (acts.Pull name) =
+    pull_outcome setup g a h (home_of setup a) now (named_entry (flat_at g (home_of setup a)) name)
+accepted_by setup g a h now (acts.Look c) = look_outcome setup g a h c now h.thread
+accepted_by setup g a h now acts.Aim = aim_outcome setup g a h now h.thread
+accepted_by setup g a h now (acts.Ran us) = ran_outcome setup g a h us now h.thread
+accepted_by setup g a h now acts.Sleep = sleep_outcome setup g a now h.thread
+accepted_by setup g a h now (acts.Wake name) = wake_outcome setup g a now (sleeper_of g.yard name)
+accepted_by setup g a h now acts.End = end_outcome setup g a now h.thread
+accepted_by setup g a h now acts.Blocked = blocked_outcome g a h now
+accepted_by setup g a h now acts.Refresh =
+    leaving_hand g a h (home_of setup a) now (refresh_event setup now (flat_at g (home_of setup a)))
+accepted_by setup g a h now (acts.Off c) = leaving_hand g a h c now (power_event false now (flat_at g c))
+accepted_by setup g a h now (acts.On c) = leaving_hand g a h c now (power_event true now (flat_at g c))
+
+-- a refused step leaves all as it was
+abbrev pub outcome_by : SetupParts → Game → Step → Option Answer → Outcome
+outcome_by setup g step (Some answer) = record { answer = answer; thread = None; game = g }
+outcome_by setup g step None = accepted_by setup g step.actor (hand_at g step.actor) (effective_moment setup g step) step.act
+
+-- what a step comes to
+abbrev pub outcome : SetupParts → Game → Step → Outcome
+outcome setup g step = outcome_by setup g step (refusal setup g step)
+
+-- the reply: the step at its effective moment, its answer, and the thread that it moved or charged
+abbrev pub reply : SetupParts → Game → Step → Entry
+reply setup g step = record {
+  step = record step { moment = effective_moment setup g step };
+  answer = (outcome setup g step).answer;
+  thread = (outcome setup g step).thread;
+}
+
+-- the state after a step
+abbrev pub state_after : SetupParts → Game → Step → Game
+state_after setup g step = (outcome setup g step).game
+
+-- the replies to a list of steps, and the state after them
+abbrev pub replies : SetupParts → Game → List Step → List Entry
+replies setup g [] = []
+replies setup g (step ∷ steps) = reply setup g step ∷ replies setup (state_after setup g step) steps
+
+abbrev pub states_after : SetupParts → Game → List Step → Game
+states_after setup g [] = g
+states_after setup g (step ∷ steps) = states_after setup (state_after setup g step) steps
+
+-- whether the setup fits a step: its moment, base, actor, clusters, group and bound cluster are in range
+abbrev pub fits_act : SetupParts → Act → Bool
+fits_act setup (acts.Make name group bucket base bound) =
+    nat_lt group (group_count setup) && (nat_le base 127 && option_map_or (λ c. nat_lt c (cluster_count setup)) bound true)
+fits_act setup (acts.Enter c head) = nat_lt c (cluster_count setup)
+fits_act setup acts.Select = true
+fits_act setup (acts.Offer c) = nat_lt c (cluster_count setup)
+fits_act setup (acts.Pull name) = true
+fits_act setup (acts.Look c) = nat_lt c (cluster_count setup)
+fits_act setup acts.Aim = true
+fits_act setup (acts.Ran us) = true
+fits_act setup acts.Sleep = true
+fits_act setup (acts.Wake name) = true
+fits_act setup acts.End = true
+fits_act setup acts.Blocked = true
+fits_act setup acts.Refresh = true
+fits_act setup (acts.Off c) = nat_lt c (cluster_count setup)
+fits_act setup (acts.On c) = nat_lt c (cluster_count setup)
+
+abbrev pub fits_step : SetupParts → Step → Bool
+fits_step setup step = nat_lt step.moment (2 ^ 40) && (nat_lt step.actor (actor_count setup) && fits_act setup step.act)
+
+-- a run from a state: each line is a step that the setup fits, and is what the machine replies to it
+abbrev pub RunsFrom : SetupParts → Game → List Entry → Game → Type 0
+RunsFrom setup g [] end = end ≡ g
+RunsFrom setup g (e ∷ es) end =
+    IsTrue (fits_step setup e.step) × (reply setup g e.step ≡ e) × RunsFrom setup (state_after setup g e.step) es end
+
+-- a run from the empty machine
+abbrev pub GRun : SetupParts → List Entry → Game → Type 0
+GRun setup history end = RunsFrom setup (empty_game setup) history end
+
+-- how often a name stands in the queues, the hands, and among the blocked and the ended threads
+abbrev pub count_queued : ℕ → Flat → ℕ
+count_queued name s = count_by (λ (e : Queued). e.facts.name == name) s.entries
+
+abbrev pub count_held : ℕ → Hand → ℕ
+count_held name h = if holds name h.thread then 1 else 0
+
+abbrev pub count_in_yard : ℕ → Yard → ℕ
+count_in_yard name y = count_by (λ (w : Sleeper). w.facts.name == name) y.blocked + count_by (λ n. n == name) y.ended
+
+abbrev pub place_count : Game → ℕ → ℕ
+place_count g name = sum_by (count_queued name) g.flats + sum_by (count_held name) g.hands + count_in_yard name g.yard
+
+-- the number of places that each name should have: 1 where it was made, 0 otherwise
+abbrev pub expected_count : Game → ℕ → ℕ
+expected_count g name = if list_any (λ n. n == name) g.yard.made then 1 else 0
