@@ -1,13 +1,13 @@
-// A library with one function.
+//! Pairing heaps, after Fredman, Sedgewick, Sleator and Tarjan, whose nodes are slots of an arena.
 #![tactic(auto)]
 
-ghost use Rattle.std.specs.Prelude.{◌≡◌};
-ghost use Rattle.pairing_heap.specs.Echo.{echo_of};
+mod heap;
+mod key;
+mod meld;
+mod steps;
+#[cfg(test)]
+mod tests;
 
-// The `ensures` clause is the contract: what `echo` returns is `echo_of` of its argument, a definition
-// in `specs/Echo.antt`, which a caller's clause can cite too.
-pub fn echo(x: usize) -> usize
-    ensures { result ≡ echo_of x }
-{
-    x
-}
+pub use heap::Heap;
+pub use key::{HeapKey, Keyed};
+pub use steps::Steps;
