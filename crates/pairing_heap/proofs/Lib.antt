@@ -4,3 +4,7 @@ pub mod Size
 pub mod Melding
 pub mod Passes
 pub mod Pairing
+pub mod Standing
+pub mod Adding
+pub mod Taking
+pub mod Least

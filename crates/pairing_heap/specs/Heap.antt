@@ -1,7 +1,7 @@
 -- What contracts say of a heap: with its arena, it is a list of keys and slots.
-use Rattle.std.specs.Prelude.{◌≡◌, ◌≢◌, ℕ, ◌+◌, ◌<◌, ◌≤◌, Bool, true, false, List, [], ◌∷◌, length, Option, Some, None, count_by, ◌==◌}
+use Rattle.std.specs.Prelude.{◌≡◌, ◌≢◌, ℕ, ◌+◌, ◌<◌, ◌≤◌, Bool, true, false, List, [], ◌∷◌, length, Option, Some, None, count_by, ◌==◌, All}
 use Rattle.link_arena.specs.declared.arena.Links.{Links}
-use Rattle.link_arena.specs.Arena.{Arena, value_at, links_at}
+use Rattle.link_arena.specs.Arena.{Arena, value_at, links_at, unlinked}
 use Rattle.pairing_heap.specs.Tree.{Tree, pairs, tree_from, IsHeap}
 
 -- the lists have the same elements, each as often: every test counts as many in both
@@ -49,3 +49,41 @@ module _ {V X : Type 0} where
   -- the slot is none of the heap's
   abbrev pub Lacks : ℕ → (V → X) → Arena V → Option ℕ → ℕ → Type 0
   Lacks k key_of a root slot = times_of (pairs_at k key_of a root) slot ≡ 0
+
+module _ {V X : Type 0} where
+  -- the heap has no slot that stands here
+  abbrev pub IsApart : ℕ → (V → X) → Arena V → Option ℕ → (ℕ → ℕ) → Type 0
+  IsApart k key_of a root times = (slot : ℕ) → times_of (pairs_at k key_of a root) slot + times slot ≤ 1
+
+  -- each heap of the set that has no slot of these stands as it stood
+  abbrev pub OthersStay : ℕ → (V → X) → (X → X → Bool) → Arena V → Arena V → (ℕ → ℕ) → Type 0
+  OthersStay k key_of precedes old new times =
+      (root : Option ℕ) → Stands k key_of precedes old root → IsApart k key_of old root times
+      → Stands k key_of precedes new root × (pairs_at k key_of new root ≡ pairs_at k key_of old root)
+
+  -- the heap's slots have the same keys and links in both arenas
+  pub record SameSlots (k : ℕ) (key_of : V → X) (old new : Arena V) (root : Option ℕ) : Type 0 where
+    pub keys : (slot : ℕ) → Holds k key_of old root slot → keys_at key_of new slot ≡ keys_at key_of old slot
+    pub links : (slot : ℕ) → Holds k key_of old root slot → links_at new k slot ≡ links_at old k slot
+
+  -- no pair of the heap precedes that of its first slot
+  abbrev pub IsLeast : ℕ → (V → X) → (X → X → Bool) → Arena V → Option ℕ → ℕ → Type 0
+  IsLeast k key_of precedes a root slot =
+      (key : X) → keys_at key_of a slot ≡ Some key
+      → All (λ pair. precedes pair.0 key ≡ false) (pairs_at k key_of a root)
+
+  -- the heap has one pair more, that of the slot; the rest stays
+  pub record AddsPair (k : ℕ) (key_of : V → X) (precedes : X → X → Bool) (old new : Arena V) (heap later : Option ℕ) (slot : ℕ) : Type 0 where
+    pub stands : Stands k key_of precedes new later
+    pub pairs : (key : X) → keys_at key_of old slot ≡ Some key → SameElements (pairs_at k key_of new later) ((key, slot) ∷ pairs_at k key_of old heap)
+    pub kept : LinksOnly k old new (times_of (pairs_at k key_of new later))
+    pub others : OthersStay k key_of precedes old new (times_of (pairs_at k key_of new later))
+
+  -- the heap has one pair less, that of the slot, whose links lead nowhere; the rest stays
+  pub record TakesPair (k : ℕ) (key_of : V → X) (precedes : X → X → Bool) (old new : Arena V) (heap later : Option ℕ) (slot : ℕ) : Type 0 where
+    pub held : Holds k key_of old heap slot
+    pub stands : Stands k key_of precedes new later
+    pub pairs : (key : X) → keys_at key_of old slot ≡ Some key → SameElements (pairs_at k key_of old heap) ((key, slot) ∷ pairs_at k key_of new later)
+    pub free : links_at new k slot ≡ unlinked
+    pub kept : LinksOnly k old new (times_of (pairs_at k key_of old heap))
+    pub others : OthersStay k key_of precedes old new (times_of (pairs_at k key_of old heap))

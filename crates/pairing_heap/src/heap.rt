@@ -1,8 +1,8 @@
-ghost use Rattle.std.specs.Prelude.{◌≡◌, ℕ, ◌+◌, ◌<◌, ◌≤◌, Some, None, IsTrue, ◌↔◌, IsSome, IsNone, IfSome, IfNone};
+ghost use Rattle.std.specs.Prelude.{◌≡◌, ℕ, ◌+◌, ◌<◌, ◌≤◌, Some, None, IsTrue, ◌↔◌, IsSome, IsNone, IfSome, IfNone, []};
 
-use crate::meld::{meld, merge_children};
+use crate::meld::{add_root, take_root};
 use crate::{Keyed, Steps};
-use link_arena::{Arena, Links};
+use link_arena::Arena;
 use std::marker::Model;
 use std::sync::ledger::Ledger;
 
@@ -21,6 +21,9 @@ impl<const K: usize> Model for Heap<K> {
 }
 
 impl<const K: usize> Heap<K> {
+    ghost use Rattle.link_arena.specs.Arena.{IsLive};
+    ghost use Rattle.pairing_heap.specs.Heap.{Stands, Lacks, Holds, AddsPair, TakesPair, pairs_at, IsLeast, SameSlots};
+
     /// A heap with no entry.
     pub fn new() -> Heap<K>
         ensures { result ≡ None }
@@ -35,37 +38,70 @@ impl<const K: usize> Heap<K> {
         self.root.is_none()
     }
 
-    /// The slot that no other precedes.
+    /// The slot that no other precedes, as `peek_is_least` says.
     pub fn peek(&self) -> Option<u32>
         ensures { result ≡ self.now }
     {
         self.root
     }
 
-    /// Adds a slot.
+    /// Makes no step: no pair of the heap precedes that of the slot that `peek` gives, and there is none exactly where
+    /// the heap is empty.
+    pub fn peek_is_least<V: Keyed<K>>(&self, _arena: &Arena<V>)
+        requires { Stands K V.key_of V.Key.precedes _arena.now self.now }
+        ensures none { IsNone self.now ↔ (pairs_at K V.key_of _arena.now self.now ≡ []) }
+        ensures held { IfSome self.now (λ slot. Holds K V.key_of _arena.now self.now slot) }
+        ensures least { IfSome self.now (λ slot. IsLeast K V.key_of V.Key.precedes _arena.now self.now slot) }
+    {
+    }
+
+    /// Makes no step: a heap whose slots have the same keys and links in two arenas stands in the second where it stands
+    /// in the first.
+    pub fn stands_where_slots_stay<V: Keyed<K>>(&self, _before: &Arena<V>, _after: &Arena<V>)
+        requires stands { Stands K V.key_of V.Key.precedes _before.now self.now }
+        requires same { SameSlots K V.key_of _before.now _after.now self.now }
+        ensures stands { Stands K V.key_of V.Key.precedes _after.now self.now }
+        ensures pairs { pairs_at K V.key_of _after.now self.now ≡ pairs_at K V.key_of _before.now self.now }
+    {
+    }
+
+    /// Adds a slot, which holds a value and is in no heap of the set, with one comparison at most and none where the heap
+    /// is empty.
     pub fn push<V: Keyed<K>, L: Ledger>(
         &mut self,
         arena: &mut Arena<V>,
         slot: u32,
         steps: &mut Steps<L>,
-    ) {
-        arena.set_links(K, slot, Links::NONE);
-        self.root = match self.root {
-            None => Some(slot),
-            Some(root) => Some(meld::<V, K, L>(arena, root, slot, steps)),
-        };
+    )
+        requires stands { Stands K V.key_of V.Key.precedes arena.old self.old }
+        requires live { IsLive arena.old slot }
+        requires lacks { Lacks K V.key_of arena.old self.old slot }
+        ensures adds { AddsPair K V.key_of V.Key.precedes arena.old arena.new self.old self.new slot }
+        ensures ticks { steps.old ≤ steps.new }
+        ensures most { steps.new ≤ steps.old + 1 }
+        ensures first { self.old ≡ None → steps.new ≡ steps.old }
+    {
+        self.root = Some(add_root::<V, K, L>(arena, self.root, slot, steps));
     }
 
-    /// Takes out what `peek` gives.
+    /// Takes out what `peek` gives, whose links lead nowhere then. The root's children are melded in pairs from left to
+    /// right, and the pairs then into one.
     pub fn pop<V: Keyed<K>, L: Ledger>(
         &mut self,
         arena: &mut Arena<V>,
         steps: &mut Steps<L>,
-    ) -> Option<u32> {
-        let root = self.root?;
-        let children = arena.links(K, root).child;
-        arena.set_links(K, root, Links::NONE);
-        self.root = merge_children::<V, K, L>(arena, children, steps);
+    ) -> Option<u32>
+        requires { Stands K V.key_of V.Key.precedes arena.old self.old }
+        ensures first { result ≡ self.old }
+        ensures takes { IfSome result (λ slot. TakesPair K V.key_of V.Key.precedes arena.old arena.new self.old self.new slot) }
+        ensures heap { IfNone result (self.new ≡ self.old) }
+        ensures arena { IfNone result (arena.new ≡ arena.old) }
+        ensures ticks { steps.old ≤ steps.new }
+    {
+        let Some(root) = self.root else {
+            return None;
+        };
+        self.root = take_root::<V, K, L>(arena, root, steps);
         Some(root)
     }
 }

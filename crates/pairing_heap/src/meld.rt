@@ -1,7 +1,7 @@
 ghost use Rattle.std.specs.Prelude.{◌≡◌, ℕ, ◌+◌, ◌<◌, ◌≤◌, Some, None};
 ghost use Rattle.link_arena.specs.Arena.{IsLive, links_at, value_at, Relinks};
 ghost use Rattle.pairing_heap.specs.Chain.{Adopts, CanAdopt, KeepsRest, CanMeld, Melds, Chained, Split, Resplits, Pairs, Rechains, Merges};
-ghost use Rattle.pairing_heap.specs.Heap.{keys_at};
+ghost use Rattle.pairing_heap.specs.Heap.{keys_at, Stands, Lacks, AddsPair, TakesPair};
 
 use crate::{HeapKey, Keyed, Steps};
 use link_arena::{Arena, Links};
@@ -25,6 +25,43 @@ pub(crate) fn meld<V: Keyed<K>, const K: usize, L: Ledger>(
         adopt::<V, K>(arena, a, b);
         a
     }
+}
+
+/// Adds a slot to the heap with this root, and returns the root.
+pub(crate) fn add_root<V: Keyed<K>, const K: usize, L: Ledger>(
+    arena: &mut Arena<V>,
+    heap: Option<u32>,
+    slot: u32,
+    steps: &mut Steps<L>,
+) -> u32
+    requires stands { Stands K V.key_of V.Key.precedes arena.old heap }
+    requires live { IsLive arena.old slot }
+    requires lacks { Lacks K V.key_of arena.old heap slot }
+    ensures adds { AddsPair K V.key_of V.Key.precedes arena.old arena.new heap (Some result) slot }
+    ensures ticks { steps.old ≤ steps.new }
+    ensures most { steps.new ≤ steps.old + 1 }
+    ensures first { heap ≡ None → steps.new ≡ steps.old }
+{
+    arena.set_links(K, slot, Links::NONE);
+    match heap {
+        None => slot,
+        Some(root) => meld::<V, K, L>(arena, root, slot, steps),
+    }
+}
+
+/// Takes the root out of a heap, and returns the root that the heap has then.
+pub(crate) fn take_root<V: Keyed<K>, const K: usize, L: Ledger>(
+    arena: &mut Arena<V>,
+    root: u32,
+    steps: &mut Steps<L>,
+) -> Option<u32>
+    requires { Stands K V.key_of V.Key.precedes arena.old (Some root) }
+    ensures takes { TakesPair K V.key_of V.Key.precedes arena.old arena.new (Some root) result root }
+    ensures ticks { steps.old ≤ steps.new }
+{
+    let children = arena.links(K, root).child;
+    arena.set_links(K, root, Links::NONE);
+    merge_children::<V, K, L>(arena, children, steps)
 }
 
 /// Whether the key at one slot precedes that at another.

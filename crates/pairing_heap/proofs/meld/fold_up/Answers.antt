@@ -35,4 +35,4 @@ returns-clause-merges g c was =
     Merges-done g.row.K g.V.Keyed.key_of g.V.Key.HeapKey.precedes _ _ _ _ _ was folds c.set_next.ensures.relinks c.set_next.ensures.spare
 
 pub returns-in_err-top-clause-merges : goal.returns-in_err-top-clause-merges
-returns-in_err-top-clause-merges g c was = Merges-nowhere g.row.K g.V.Keyed.key_of g.V.Key.HeapKey.precedes c.args.arena.now c.args.first c.in_err-top.was was
+returns-in_err-top-clause-merges g c was = rw c.from_residual.ensures (Merges-nowhere g.row.K g.V.Keyed.key_of g.V.Key.HeapKey.precedes c.args.arena.now c.args.first c.in_err-top.was was)

@@ -1,5 +1,6 @@
 -- The passes one after the other.
 use Rattle.pairing_heap.proofs.Pairing.{Merges-both, Chained-rechains}
+use Rattle.pairing_heap.proofs.Standing.{Stands-kept}
 use Rattle.pairing_heap.proofs.meld.merge_children.Goals as goal
 
 pub fold_up-requires : goal.fold_up-requires
