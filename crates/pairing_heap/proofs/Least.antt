@@ -39,7 +39,7 @@ module _ {X : Type 0} (precedes : X → X → Bool) (order : IsStrictOrder prece
 module _ {V X : Type 0} (k : ℕ) (key_of : V → X) (precedes : X → X → Bool) where
   pub least_first : IsStrictOrder precedes → (a : Arena V) (root : Option ℕ) → Stands k key_of precedes a root → IfSome root (λ slot. IsLeast k key_of precedes a root slot)
   least_first order a None stands = tt
-  least_first order a (Some root) stands key keyed =
+  least_first order a (Some root) stands = λ key keyed.
       let before = root_of k key_of precedes a root stands in
       let e = sym before.rooted.keyed ∙ keyed in
       let same : before.key ≡ key = cc in

@@ -8,3 +8,5 @@ pub mod Standing
 pub mod Adding
 pub mod Taking
 pub mod Least
+pub mod Cutting
+pub mod Cuts

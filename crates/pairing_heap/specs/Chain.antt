@@ -22,6 +22,21 @@ pub record CanAdopt {V : Type 0} (k : ℕ) (a : Arena V) (parent child : ℕ) : 
   pub not_child : (links_at a k parent).child ≢ Some child
   pub sibling_live : (sibling : ℕ) → (links_at a k parent).child ≡ Some sibling → IsLive a sibling
 
+-- the slot before one, and the one after it, are joined past it
+pub record Unhooks (links later : ℕ → Links) (slot pred : ℕ) : Type 0 where
+  pub child : (links pred).child ≡ Some slot → later pred ≡ record { child = (links slot).next; next = (links pred).next; prev = (links pred).prev }
+  pub next : (links pred).child ≢ Some slot → later pred ≡ record { child = (links pred).child; next = (links slot).next; prev = (links pred).prev }
+  pub beside : (after : ℕ) → (links slot).next ≡ Some after → later after ≡ record { child = (links after).child; next = (links after).next; prev = Some pred }
+  pub elsewhere : (other : ℕ) → other ≢ pred → (links slot).next ≢ Some other → later other ≡ links other
+
+-- the slot before one, and the one after it, are unlike and hold values
+pub record CanUnhook {V : Type 0} (k : ℕ) (a : Arena V) (slot pred : ℕ) : Type 0 where
+  pub set : k < 2
+  pub slot_live : IsLive a slot
+  pub pred_live : IsLive a pred
+  pub apart : (links_at a k slot).next ≢ Some pred
+  pub after_live : (after : ℕ) → (links_at a k slot).next ≡ Some after → IsLive a after
+
 -- values, spare slots and the other link set stay
 pub record KeepsRest {V : Type 0} (k : ℕ) (old new : Arena V) : Type 0 where
   pub values : (slot : ℕ) → value_at new slot ≡ value_at old slot

@@ -1,6 +1,6 @@
-ghost use Rattle.std.specs.Prelude.{◌≡◌, ℕ, ◌+◌, ◌<◌, ◌≤◌, Some, None};
+ghost use Rattle.std.specs.Prelude.{◌≡◌, ◌≢◌, ℕ, ◌+◌, ◌<◌, ◌≤◌, Some, None};
 ghost use Rattle.link_arena.specs.Arena.{IsLive, links_at, value_at, Relinks};
-ghost use Rattle.pairing_heap.specs.Chain.{Adopts, CanAdopt, KeepsRest, CanMeld, Melds, Chained, Split, Resplits, Pairs, Rechains, Merges};
+ghost use Rattle.pairing_heap.specs.Chain.{Adopts, CanAdopt, CanUnhook, Unhooks, KeepsRest, CanMeld, Melds, Chained, Split, Resplits, Pairs, Rechains, Merges};
 ghost use Rattle.pairing_heap.specs.Heap.{keys_at, Stands, Lacks, AddsPair, TakesPair};
 
 use crate::{HeapKey, Keyed, Steps};
@@ -219,4 +219,45 @@ fn set_next<V: Keyed<K>, const K: usize>(arena: &mut Arena<V>, slot: u32, next: 
             prev: None,
         },
     );
+}
+
+/// Joins the slot before another, and the one after it, past it.
+fn unhook<V: Keyed<K>, const K: usize>(arena: &mut Arena<V>, slot: u32, pred: u32)
+    requires { CanUnhook K arena.old slot pred }
+    ensures links { Unhooks (links_at arena.old K) (links_at arena.new K) slot pred }
+    ensures rest { KeepsRest K arena.old arena.new }
+{
+    let after = arena.links(K, slot).next;
+    let above = arena.links(K, pred);
+    let joined = past_slot(above, slot, after);
+    arena.set_links(K, pred, joined);
+    if let Some(after) = after {
+        let beside = arena.links(K, after);
+        arena.set_links(
+            K,
+            after,
+            Links {
+                prev: Some(pred),
+                ..beside
+            },
+        );
+    }
+}
+
+/// The links of what comes before a slot, with what comes after it in its place.
+fn past_slot(above: Links, slot: u32, after: Option<u32>) -> Links
+    ensures child { above.child ≡ Some slot → result ≡ record { child = after; next = above.next; prev = above.prev } }
+    ensures next { above.child ≢ Some slot → result ≡ record { child = above.child; next = after; prev = above.prev } }
+{
+    if above.child == Some(slot) {
+        Links {
+            child: after,
+            ..above
+        }
+    } else {
+        Links {
+            next: after,
+            ..above
+        }
+    }
 }
