@@ -10,3 +10,4 @@ pub mod Taking
 pub mod Least
 pub mod Cutting
 pub mod Cuts
+pub mod Joining

@@ -147,3 +147,10 @@ module _ {V X : Type 0} (k : ℕ) (key_of : V → X) (precedes : X → X → Boo
     pub heap : IsHeap precedes (keys_at key_of new) (links_at new k) root tree
     pub nodes : (test : X × ℕ → Bool) → tally test tree ≡ tally test was.tree
     pub kept : LinksOnly k old new (λ slot. slot_count slot was.tree)
+
+  -- the chain went into the root's heap
+  pub record Joins (old new : Arena V) (root : ℕ) (children : Option ℕ) (result : ℕ) (was : Split old root children) : Type 0 where
+    pub tree : Tree X
+    pub heap : IsHeap precedes (keys_at key_of new) (links_at new k) (Some result) tree
+    pub nodes : (test : X × ℕ → Bool) → tally test tree ≡ split_tally old root children was test
+    pub kept : LinksOnly k old new (λ slot. split_tally old root children was (λ pair. pair.1 == slot))

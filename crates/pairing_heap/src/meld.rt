@@ -1,6 +1,6 @@
 ghost use Rattle.std.specs.Prelude.{◌≡◌, ◌≢◌, ℕ, ◌+◌, ◌<◌, ◌≤◌, Some, None};
 ghost use Rattle.link_arena.specs.Arena.{IsLive, links_at, value_at, Relinks};
-ghost use Rattle.pairing_heap.specs.Chain.{Adopts, CanAdopt, CanUnhook, Unhooks, KeepsRest, CanMeld, Melds, Chained, Split, Resplits, Pairs, Rechains, Merges};
+ghost use Rattle.pairing_heap.specs.Chain.{Adopts, CanAdopt, CanUnhook, Unhooks, KeepsRest, CanMeld, Melds, Chained, Split, Resplits, Pairs, Rechains, Merges, Joins};
 ghost use Rattle.pairing_heap.specs.Heap.{keys_at, Stands, Lacks, AddsPair, TakesPair};
 
 use crate::{HeapKey, Keyed, Steps};
@@ -129,6 +129,23 @@ pub(crate) fn merge_children<V: Keyed<K>, const K: usize, L: Ledger>(
 {
     let paired = pair_up::<V, K, L>(arena, first, steps);
     fold_up::<V, K, L>(arena, paired, steps)
+}
+
+/// Merges a chain of heaps into that of a root, and returns the root.
+fn join_children<V: Keyed<K>, const K: usize, L: Ledger>(
+    arena: &mut Arena<V>,
+    root: u32,
+    children: Option<u32>,
+    steps: &mut Steps<L>,
+) -> u32
+    requires { Split K V.key_of V.Key.precedes arena.old root children }
+    ensures joins { (was : Split K V.key_of V.Key.precedes arena.old root children) → (links_at arena.old K root).next ≡ None → (links_at arena.old K root).prev ≡ None → Joins K V.key_of V.Key.precedes arena.old arena.new root children result was }
+    ensures ticks { steps.old ≤ steps.new }
+{
+    match merge_children::<V, K, L>(arena, children, steps) {
+        None => root,
+        Some(merged) => meld::<V, K, L>(arena, root, merged, steps),
+    }
 }
 
 /// Melds siblings in pairs from left to right, and returns the pairs as a chain, the last pair first.
