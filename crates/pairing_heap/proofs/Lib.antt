@@ -11,3 +11,4 @@ pub mod Least
 pub mod Cutting
 pub mod Cuts
 pub mod Joining
+pub mod Removing

@@ -1,7 +1,7 @@
 ghost use Rattle.std.specs.Prelude.{◌≡◌, ◌≢◌, ℕ, ◌+◌, ◌<◌, ◌≤◌, Some, None};
 ghost use Rattle.link_arena.specs.Arena.{IsLive, links_at, value_at, Relinks};
 ghost use Rattle.pairing_heap.specs.Chain.{Adopts, CanAdopt, CanUnhook, Unhooks, KeepsRest, CanMeld, Melds, Chained, Split, Resplits, Pairs, Rechains, Merges, Joins};
-ghost use Rattle.pairing_heap.specs.Heap.{keys_at, Stands, Lacks, AddsPair, TakesPair};
+ghost use Rattle.pairing_heap.specs.Heap.{keys_at, Stands, Holds, Lacks, AddsPair, TakesPair};
 
 use crate::{HeapKey, Keyed, Steps};
 use link_arena::{Arena, Links};
@@ -62,6 +62,46 @@ pub(crate) fn take_root<V: Keyed<K>, const K: usize, L: Ledger>(
     let children = arena.links(K, root).child;
     arena.set_links(K, root, Links::NONE);
     merge_children::<V, K, L>(arena, children, steps)
+}
+
+/// Takes a slot out of a heap that holds it, and returns the root that the heap has then.
+pub(crate) fn take_slot<V: Keyed<K>, const K: usize, L: Ledger>(
+    arena: &mut Arena<V>,
+    heap: Option<u32>,
+    slot: u32,
+    steps: &mut Steps<L>,
+) -> Option<u32>
+    requires stands { Stands K V.key_of V.Key.precedes arena.old heap }
+    requires held { Holds K V.key_of arena.old heap slot }
+    ensures takes { TakesPair K V.key_of V.Key.precedes arena.old arena.new heap result slot }
+    ensures ticks { steps.old ≤ steps.new }
+{
+    let root = heap.unwrap();
+    if root == slot {
+        take_root::<V, K, L>(arena, root, steps)
+    } else {
+        Some(take_inner::<V, K, L>(arena, root, slot, steps))
+    }
+}
+
+/// Takes a slot from below the root out of a heap, by its links, and returns the root that the heap has then.
+fn take_inner<V: Keyed<K>, const K: usize, L: Ledger>(
+    arena: &mut Arena<V>,
+    root: u32,
+    slot: u32,
+    steps: &mut Steps<L>,
+) -> u32
+    requires stands { Stands K V.key_of V.Key.precedes arena.old (Some root) }
+    requires held { Holds K V.key_of arena.old (Some root) slot }
+    requires below { root ≢ slot }
+    ensures takes { TakesPair K V.key_of V.Key.precedes arena.old arena.new (Some root) (Some result) slot }
+    ensures ticks { steps.old ≤ steps.new }
+{
+    let links = arena.links(K, slot);
+    let pred = links.prev.unwrap();
+    unhook::<V, K>(arena, slot, pred);
+    arena.set_links(K, slot, Links::NONE);
+    join_children::<V, K, L>(arena, root, links.child, steps)
 }
 
 /// Whether the key at one slot precedes that at another.
