@@ -12,3 +12,4 @@ pub mod Cutting
 pub mod Cuts
 pub mod Joining
 pub mod Removing
+pub mod Rekeying

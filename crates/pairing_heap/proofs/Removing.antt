@@ -175,3 +175,18 @@ module _ {V X : Type 0} (k : ℕ) (key_of : V → X) (precedes : X → X → Boo
         (LinksOnly-then k old mid new (times_of (pairs_at k key_of old (Some root))) (λ other. split_tally k key_of precedes mid root (links_at old k slot).child outside.split (λ pair. pair.1 == other)) (times_of (pairs_at k key_of old (Some root))) outside.kept joins.kept
           (λ other none. none)
           (λ other none. omega (arith, none, outside.nodes (λ pair. pair.1 == other))))
+
+  -- the same, where the slot's first child is known by another name
+  pub Takes-inner-at : (old mid new : Arena V) (root slot result : ℕ) (at : Option ℕ) → (links_at old k slot).child ≡ at → Stands k key_of precedes old (Some root) → Outside old mid root slot → ((was : Split k key_of precedes mid root at) → (links_at mid k root).next ≡ None → (links_at mid k root).prev ≡ None → Joins k key_of precedes mid new root at result was) → TakesPair k key_of precedes old new (Some root) (Some result) slot
+  Takes-inner-at old mid new root slot result at is stands outside joins =
+      let moved = subst (λ (a : Option ℕ). (was : Split k key_of precedes mid root a) → (links_at mid k root).next ≡ None → (links_at mid k root).prev ≡ None → Joins k key_of precedes mid new root a result was) (sym is) joins in
+      Takes-inner old mid new root slot result stands outside (moved outside.split outside.next outside.prev)
+
+  pub Split-at : (old mid : Arena V) (root slot : ℕ) (at : Option ℕ) → (links_at old k slot).child ≡ at → Outside old mid root slot → Split k key_of precedes mid root at
+  Split-at old mid root slot at is outside = subst (λ (a : Option ℕ). Split k key_of precedes mid root a) is outside.split
+
+  -- what a slot's links say before it is unhooked
+  pub Outside-written : (old mid new : Arena V) (root slot pred : ℕ) → Stands k key_of precedes old (Some root) → Holds k key_of old (Some root) slot → root ≢ slot → (links_at old k slot).prev ≡ Some pred → Unhooks (links_at old k) (links_at mid k) slot pred → KeepsRest k old mid → Relinks mid new k slot unlinked → new.spare ≡ mid.spare → Outside old new root slot
+  Outside-written old mid new root slot pred stands held differs prev_is unhooks rest relinks spare =
+      let inner = inner_held old root slot stands held differs in
+      Outside-unhooked old mid new root slot pred inner (before_inner old root slot pred inner prev_is) unhooks rest relinks spare

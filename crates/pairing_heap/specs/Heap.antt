@@ -87,3 +87,14 @@ module _ {V X : Type 0} where
     pub free : links_at new k slot ≡ unlinked
     pub kept : LinksOnly k old new (times_of (pairs_at k key_of old heap))
     pub others : OthersStay k key_of precedes old new (times_of (pairs_at k key_of old heap))
+
+  -- the slot's value, and with it the slot's pair, is another; the rest stays
+  pub record RekeysPair (k : ℕ) (key_of : V → X) (precedes : X → X → Bool) (old new : Arena V) (heap later : Option ℕ) (slot : ℕ) (value : V) : Type 0 where
+    pub stands : Stands k key_of precedes new later
+    pub stored : value_at new slot ≡ Some value
+    pub values : (other : ℕ) → other ≢ slot → value_at new other ≡ value_at old other
+    pub pairs : (key : X) → keys_at key_of old slot ≡ Some key → SameElements ((key, slot) ∷ pairs_at k key_of new later) ((key_of value, slot) ∷ pairs_at k key_of old heap)
+    pub other_set : (set other : ℕ) → set ≢ k → links_at new set other ≡ links_at old set other
+    pub elsewhere : (other : ℕ) → times_of (pairs_at k key_of old heap) other ≡ 0 → links_at new k other ≡ links_at old k other
+    pub spare : new.spare ≡ old.spare
+    pub others : OthersStay k key_of precedes old new (times_of (pairs_at k key_of old heap))

@@ -1,6 +1,6 @@
 ghost use Rattle.std.specs.Prelude.{◌≡◌, ℕ, ◌+◌, ◌<◌, ◌≤◌, Some, None, IsTrue, ◌↔◌, IsSome, IsNone, IfSome, IfNone, []};
 
-use crate::meld::{add_root, take_root};
+use crate::meld::{add_root, take_root, take_slot};
 use crate::{Keyed, Steps};
 use link_arena::Arena;
 use std::marker::Model;
@@ -21,8 +21,8 @@ impl<const K: usize> Model for Heap<K> {
 }
 
 impl<const K: usize> Heap<K> {
-    ghost use Rattle.link_arena.specs.Arena.{IsLive};
-    ghost use Rattle.pairing_heap.specs.Heap.{Stands, Lacks, Holds, AddsPair, TakesPair, pairs_at, IsLeast, SameSlots};
+    ghost use Rattle.link_arena.specs.Arena.{IsLive, value_at};
+    ghost use Rattle.pairing_heap.specs.Heap.{Stands, Lacks, Holds, AddsPair, TakesPair, RekeysPair, pairs_at, IsLeast, SameSlots};
 
     /// A heap with no entry.
     pub fn new() -> Heap<K>
@@ -103,5 +103,41 @@ impl<const K: usize> Heap<K> {
         };
         self.root = take_root::<V, K, L>(arena, root, steps);
         Some(root)
+    }
+
+    /// Takes a slot out, from anywhere, by its links, which lead nowhere then.
+    pub fn remove<V: Keyed<K>, L: Ledger>(
+        &mut self,
+        arena: &mut Arena<V>,
+        slot: u32,
+        steps: &mut Steps<L>,
+    )
+        requires stands { Stands K V.key_of V.Key.precedes arena.old self.old }
+        requires held { Holds K V.key_of arena.old self.old slot }
+        ensures takes { TakesPair K V.key_of V.Key.precedes arena.old arena.new self.old self.new slot }
+        ensures ticks { steps.old ≤ steps.new }
+    {
+        self.root = take_slot::<V, K, L>(arena, self.root, slot, steps);
+    }
+
+    /// Gives a slot of the heap the value `v`, and the place in the heap that goes with its key, and hands back the old
+    /// value.
+    pub fn rekey<V: Keyed<K>, L: Ledger>(
+        &mut self,
+        arena: &mut Arena<V>,
+        slot: u32,
+        v: V,
+        steps: &mut Steps<L>,
+    ) -> V
+        requires stands { Stands K V.key_of V.Key.precedes arena.old self.old }
+        requires held { Holds K V.key_of arena.old self.old slot }
+        ensures value { value_at arena.old slot ≡ Some result }
+        ensures rekeys { RekeysPair K V.key_of V.Key.precedes arena.old arena.new self.old self.new slot v }
+        ensures ticks { steps.old ≤ steps.new }
+    {
+        self.remove(arena, slot, steps);
+        let old = arena.replace(slot, v);
+        self.push(arena, slot, steps);
+        old
     }
 }
