@@ -1,12 +1,11 @@
 -- Lemmas on the slots of a slab of cells, and on how many of them are nodes.
-use Rattle.std.proofs.Common.{◌≡◌, ◌≢◌, ℕ, zero, suc, ◌+◌, ◌<◌, ◌≤◌, Bool, true, false, cond, List, [], ◌∷◌, length, get_or, set, map, Option, Some, None, is_some, count_by, refl, sym, ap, ◌∙◌, arith}
-use Rattle.std.proofs.lemmas.List.{get_or_past, map-set}
+use Rattle.std.proofs.Common.{◌≡◌, ℕ, suc, ◌+◌, ◌<◌, cond, List, [], ◌∷◌, length, get_or, set, map, Option, Some, None, is_some, count_by, refl, sym, ap, arith}
+use Rattle.std.proofs.lemmas.List.{get_or_past}
 use Rattle.std.proofs.lemmas.List.Sums.{sum_by-cons, sum_by-set}
 use Rattle.std.proofs.Math.ListN.{get_or-map}
 use Rattle.slab.specs.Slab.{Slab, get, with_value, slab_len}
 use Rattle.link_arena.specs.declared.arena.Cell.{Cell}
-use Rattle.link_arena.specs.Arena.{Node}
-use Rattle.link_arena.specs.Sound.{node_of, is_waiting}
+use Rattle.link_arena.specs.Sound.{node_of}
 
 module _ {X : Type 0} where
   -- lists that agree at every index have as many elements that are something

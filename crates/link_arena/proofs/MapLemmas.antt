@@ -1,11 +1,11 @@
 -- What the map of an arena becomes under each of its steps.
-use Rattle.std.proofs.Common.{◌≡◌, ◌≢◌, ◌⊎◌, ℕ, zero, suc, ◌+◌, ◌<◌, List, map, set, Option, Some, None, is_some, IsSome, refl, sym, ap, ◌∙◌, inl, inr, arith}
+use Rattle.std.proofs.Common.{◌≡◌, ◌≢◌, ℕ, zero, suc, ◌<◌, List, map, set, Option, Some, None, is_some, IsSome, refl, sym, ap, ◌∙◌, inl, inr, arith}
 use Rattle.std.proofs.lemmas.Bool.{cases_eq}
 use Rattle.std.proofs.lemmas.List.{map-set}
 use Rattle.slab.specs.Slab.{Slab, get, with_value, Updates}
 use Rattle.link_arena.specs.declared.arena.Cell.{Cell}
 use Rattle.link_arena.specs.declared.arena.Links.{Links}
-use Rattle.link_arena.specs.Arena.{Arena, Node, unlinked, value_of, links_in, links_of, node_at, value_at, links_at, IsLive, SameMap, SameElsewhere, Inserts, Removes, Relinks, Revalues, node_with_value, with_value as arena_with_value}
+use Rattle.link_arena.specs.Arena.{Arena, Node, unlinked, value_of, links_in, node_at, value_at, links_at, IsLive, SameMap, SameElsewhere, Inserts, Removes, Relinks, Revalues, node_with_value, with_value as arena_with_value}
 use Rattle.link_arena.specs.Sound.{node_of, node_of_value, cell_with_links}
 use Rattle.link_arena.proofs.CellLemmas.{get_or-map_node_of}
 

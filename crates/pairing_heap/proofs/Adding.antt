@@ -1,16 +1,15 @@
 -- What a slot that is pushed makes of a heap.
-use Rattle.std.proofs.Common.{◌≡◌, ◌≢◌, ◌⊎◌, ℕ, ◌+◌, ◌<◌, ◌≤◌, Bool, true, false, List, [], ◌∷◌, Option, Some, None, is_some, length, count_by, cond, refl, sym, ap, subst, ◌∙◌, inl, inr, arith}
+use Rattle.std.proofs.Common.{◌≡◌, ◌≢◌, ℕ, ◌+◌, ◌<◌, ◌≤◌, Bool, true, Option, Some, None, is_some, count_by, cond, refl, sym, ap, subst, ◌∙◌, inl, inr, arith}
 use Rattle.std.specs.Prelude.{◌==◌}
-use Rattle.link_arena.specs.declared.arena.Links.{Links}
 use Rattle.link_arena.specs.Arena.{Arena, value_at, links_at, IsLive, unlinked, Relinks}
-use Rattle.pairing_heap.specs.Tree.{Tree, leaf, node, pairs, tally, slot_count, IsHeap}
-use Rattle.pairing_heap.specs.Heap.{SameElements, times_of, key_of_value, keys_at, tree_at, pairs_at, Stands, Holds, Lacks, LinksOnly, AddsPair}
+use Rattle.pairing_heap.specs.Tree.{Tree, leaf, tally, slot_count, IsHeap}
+use Rattle.pairing_heap.specs.Heap.{times_of, key_of_value, keys_at, tree_at, pairs_at, Stands, Lacks, LinksOnly, AddsPair}
 use Rattle.pairing_heap.specs.Chain.{solo, IsRoot, CanMeld, Melds}
-use Rattle.pairing_heap.proofs.Counts.{one, one_same, one_most, once_beside, slot_count-root}
-use Rattle.pairing_heap.proofs.Frame.{Kept, IsRoot-kept}
+use Rattle.pairing_heap.proofs.Counts.{one, one_most, once_beside, slot_count-root}
+use Rattle.pairing_heap.proofs.Frame.{IsRoot-kept}
 use Rattle.pairing_heap.proofs.Passes.{Kept-apart}
 use Rattle.pairing_heap.proofs.Pairing.{LinksOnly-relinks, LinksOnly-then}
-use Rattle.pairing_heap.proofs.Standing.{HasRoot, has_root, heap_from_root, no_root, tree_at-heap, Stands-heap, count_by-heap, count_by-stands, count_by-more, OthersStay-links}
+use Rattle.pairing_heap.proofs.Standing.{HasRoot, has_root, heap_from_root, no_root, Stands-heap, count_by-heap, count_by-stands, count_by-more, OthersStay-links}
 
 -- a live slot has a key
 pub key_from_live : {V X : Type 0} (key_of : V → X) (value : Option V) → is_some value ≡ true → (key : X) × (key_of_value key_of value ≡ Some key)
@@ -50,15 +49,15 @@ module _ {V X : Type 0} (k : ℕ) (key_of : V → X) (precedes : X → X → Boo
       let written = LinksOnly-relinks k old new slot unlinked relinks spare in
       let none = no_root precedes (keys_at key_of old) (links_at old k) (tree_at k key_of old heap) (subst (λ (r : Option ℕ). IsHeap precedes (keys_at key_of old) (links_at old k) r (tree_at k key_of old heap)) empty stands.heap) in
       Adds-links old new heap slot slot keyed.0 (solo keyed.0 slot leaf) stands.set
-        (heap_from_root precedes (keys_at key_of new) (links_at new k) slot keyed.0 leaf rooted (ap (λ l. l.next) relinks.here) (ap (λ l. l.prev) relinks.here) (λ other. omega (arith, one_most slot other)))
-        keyed.1
-        (λ test. omega (arith, count_by-stands k key_of precedes old heap test, ap (tally test) none))
-        record {
-          values = written.values;
-          other_set = written.other_set;
-          spare = written.spare;
-          elsewhere = λ other none_here. written.elsewhere other (omega (arith, none_here));
-        }
+      (heap_from_root precedes (keys_at key_of new) (links_at new k) slot keyed.0 leaf rooted (ap (λ l. l.next) relinks.here) (ap (λ l. l.prev) relinks.here) (λ other. omega (arith, one_most slot other)))
+      keyed.1
+      (λ test. omega (arith, count_by-stands k key_of precedes old heap test, ap (tally test) none))
+      record {
+        values = written.values;
+        other_set = written.other_set;
+        spare = written.spare;
+        elsewhere = λ other none_here. written.elsewhere other (omega (arith, none_here));
+      }
 
   -- the root before a push, as it is once the slot's links lead nowhere
   pub record Pushes (old new : Arena V) (root slot : ℕ) : Type 0 where
@@ -81,7 +80,7 @@ module _ {V X : Type 0} (k : ℕ) (key_of : V → X) (precedes : X → X → Boo
       let absent : slot_count slot tree ≡ 0 = sym (count_by-stands k key_of precedes old (Some root) (λ pair. pair.1 == slot)) ∙ lacks in
       let differs : root ≢ slot = λ is. omega (arith, absent, same slot, slot_count-root before.key root before.children leaf, ap (λ s. slot_count s (solo before.key root before.children)) is) in
       let unlike : (other : ℕ) → slot_count other (solo before.key root before.children) + one slot other ≤ 1 =
-          λ other. omega (arith, same other, once_beside (λ x. slot_count x tree) slot stands.heap.once absent other) in
+      λ other. omega (arith, same other, once_beside (λ x. slot_count x tree) slot stands.heap.once absent other) in
       let kept = Kept-apart k key_of precedes old new (one slot) before.children written (λ other. omega (arith, unlike other)) in
       record {
         before = before;
@@ -121,9 +120,9 @@ module _ {V X : Type 0} (k : ℕ) (key_of : V → X) (precedes : X → X → Boo
         | inr is ↦ ap (λ s. (links_at mid k s).prev) is ∙ ap (λ l. l.prev) relinks.here
       ] in
       let heap = heap_from_root precedes (keys_at key_of new) (links_at new k) later melds.key melds.children melds.rooted (melds.next ∙ next) (melds.prev ∙ prev)
-          (λ other. omega (arith, pushes.once other, melds.nodes (λ pair. pair.1 == other))) in
+      (λ other. omega (arith, pushes.once other, melds.nodes (λ pair. pair.1 == other))) in
       Adds-links old new (Some root) later slot pushes.key (solo melds.key later melds.children) set heap pushes.keyed
-        (λ test. omega (arith, melds.nodes test, count_by-stands k key_of precedes old (Some root) test, ap (tally test) before.is))
-        (LinksOnly-then k old mid new (one slot) (λ other. slot_count other (solo before.key root before.children) + slot_count other (solo pushes.key slot leaf)) (λ other. slot_count other (solo melds.key later melds.children)) pushes.written melds.kept
-          (λ other none. omega (arith, none, melds.nodes (λ pair. pair.1 == other)))
-          (λ other none. omega (arith, none, melds.nodes (λ pair. pair.1 == other))))
+      (λ test. omega (arith, melds.nodes test, count_by-stands k key_of precedes old (Some root) test, ap (tally test) before.is))
+      (LinksOnly-then k old mid new (one slot) (λ other. slot_count other (solo before.key root before.children) + slot_count other (solo pushes.key slot leaf)) (λ other. slot_count other (solo melds.key later melds.children)) pushes.written melds.kept
+      (λ other none. omega (arith, none, melds.nodes (λ pair. pair.1 == other)))
+      (λ other none. omega (arith, none, melds.nodes (λ pair. pair.1 == other))))

@@ -1,8 +1,8 @@
 -- How often slots stand in trees.
-use Rattle.std.proofs.Common.{◌≡◌, ◌≢◌, ℕ, ◌+◌, ◌<◌, ◌≤◌, Bool, true, false, cond, nat_eq, refl, sym, ap, ◌∙◌, inl, inr, arith}
+use Rattle.std.proofs.Common.{◌≡◌, ◌≢◌, ℕ, ◌+◌, ◌<◌, ◌≤◌, Bool, true, false, cond, refl, ap, inl, inr, arith}
 use Rattle.std.proofs.lemmas.Bool.{eq-eqb, eqb-true, cases_eq}
 use Rattle.std.specs.Prelude.{◌==◌, if◌then◌else◌}
-use Rattle.pairing_heap.specs.Tree.{Tree, leaf, node, tally, slot_count}
+use Rattle.pairing_heap.specs.Tree.{Tree, node, slot_count}
 
 -- one for a slot that equals another
 abbrev pub one : ℕ → ℕ → ℕ

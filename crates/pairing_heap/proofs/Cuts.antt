@@ -1,14 +1,14 @@
 -- A node goes out of the middle of a tree, and the rest stays joined and in order.
-use Rattle.std.proofs.Common.{◌≡◌, ◌≢◌, ◌⊎◌, ℕ, ◌+◌, ◌<◌, ◌≤◌, Bool, true, false, Option, Some, None, cond, refl, sym, ap, subst, ◌∙◌, inl, inr, arith}
+use Rattle.std.proofs.Common.{◌≡◌, ◌≢◌, ℕ, ◌+◌, ◌<◌, ◌≤◌, Bool, Option, Some, cond, refl, sym, ap, subst, ◌∙◌, inl, inr, arith}
 use Rattle.std.specs.Prelude.{◌==◌}
 use Rattle.link_arena.specs.declared.arena.Links.{Links}
 use Rattle.pairing_heap.specs.Tree.{Tree, leaf, node, tally, slot_count, Joined, Ordered}
-use Rattle.pairing_heap.specs.Chain.{solo, IsRoot, Unhooks}
-use Rattle.pairing_heap.proofs.Counts.{one, one_same, one_other, slot_count-root, apart}
+use Rattle.pairing_heap.specs.Chain.{IsRoot, Unhooks}
+use Rattle.pairing_heap.proofs.Counts.{one_other, slot_count-root, apart}
 use Rattle.pairing_heap.proofs.Size.{none_or_some}
 use Rattle.pairing_heap.proofs.Frame.{Kept, Joined-kept, Joined-rehung}
 use Rattle.pairing_heap.proofs.Melding.{head_in}
-use Rattle.pairing_heap.proofs.Cutting.{names_or_not, Opened, open_at, pred_in, next_in}
+use Rattle.pairing_heap.proofs.Cutting.{names_or_not, open_at, pred_in, next_in}
 
 module _ {X : Type 0} (precedes : X → X → Bool) (keys : ℕ → Option X) (links later : ℕ → Links) (slot pred : ℕ) (unhooks : Unhooks links later slot pred) (prev_is : (links slot).prev ≡ Some pred) where
   -- the tree without the slot and what is below it
@@ -39,11 +39,11 @@ module _ {X : Type 0} (precedes : X → X → Bool) (keys : ℕ → Option X) (l
       let opened = open_at precedes keys links (Some here) to slot top tree is joined ordered in
       let same = pred_here here opened.before in
       let rehung = Joined-rehung keys keys links later (Some slot) (Some here) (links slot).next opened.rest
-          (λ other. omega (arith, once other, opened.nodes (λ pair. pair.1 == other)))
-          (λ other some. refl)
-          (λ other next. unhooks.beside other next ∙ ap (λ (p : ℕ). record { child = (links other).child; next = (links other).next; prev = Some p }) same)
-          (λ other some not_first. unhooks.elsewhere other (λ equal. omega (arith, absent, some, opened.nodes (λ pair. pair.1 == here), ap (λ s. slot_count s opened.rest) (equal ∙ same))) not_first)
-          opened.beside in
+      (λ other. omega (arith, once other, opened.nodes (λ pair. pair.1 == other)))
+      (λ other some. refl)
+      (λ other next. unhooks.beside other next ∙ ap (λ (p : ℕ). record { child = (links other).child; next = (links other).next; prev = Some p }) same)
+      (λ other some not_first. unhooks.elsewhere other (λ equal. omega (arith, absent, some, opened.nodes (λ pair. pair.1 == here), ap (λ s. slot_count s opened.rest) (equal ∙ same))) not_first)
+      opened.beside in
       record {
         key = opened.key;
         below = opened.children;
@@ -111,9 +111,9 @@ module _ {X : Type 0} (precedes : X → X → Bool) (keys : ℕ → Option X) (l
       let root = slot_count-root key here children rest in
       let no_here : slot_count here children ≡ 0 = omega (arith, once here, root) in
       let after_here : (after : ℕ) → (links slot).next ≡ Some after → 0 < slot_count after children =
-          λ after is. next_in precedes keys links (Some here) (links here).child slot after children joined.3 some is in
+      λ after is. next_in precedes keys links (Some here) (links here).child slot after children joined.3 some is in
       let no_after : (after : ℕ) → (links slot).next ≡ Some after → slot_count after rest ≡ 0 =
-          λ after is. omega (arith, once after, after_here after is) in
+      λ after is. omega (arith, once after, after_here after is) in
       elim (names_or_not (links here).child slot) [
         | inl is ↦
             let opened = open_at precedes keys links (Some here) (links here).child slot key children is joined.3 ordered in
@@ -140,9 +140,9 @@ module _ {X : Type 0} (precedes : X → X → Bool) (keys : ℕ → Option X) (l
       let no_here : slot_count here rest ≡ 0 = omega (arith, once here, root) in
       let no_slot : slot_count slot children ≡ 0 = omega (arith, once slot) in
       let after_here : (after : ℕ) → (links slot).next ≡ Some after → 0 < slot_count after rest =
-          λ after is. next_in precedes keys links (Some here) (links here).next slot after rest joined.4 some is in
+      λ after is. next_in precedes keys links (Some here) (links here).next slot after rest joined.4 some is in
       let no_after : (after : ℕ) → (links slot).next ≡ Some after → slot_count after children ≡ 0 =
-          λ after is. omega (arith, once after, after_here after is) in
+      λ after is. omega (arith, once after, after_here after is) in
       elim (names_or_not (links here).next slot) [
         | inl is ↦
             let opened = open_at precedes keys links (Some here) (links here).next slot top rest is joined.4 ordered.2 in
@@ -171,9 +171,9 @@ module _ {X : Type 0} (precedes : X → X → Bool) (keys : ℕ → Option X) (l
         | inl none ↦
             let more : 0 < slot_count slot rest = omega (arith, one_other here slot differs) in
             cut_beside prev at top key here children rest once more joined ordered
-              (λ not. cut_in (Some here) (links here).next top rest (λ other. omega (arith, once other)) more joined.4 ordered.2 not)
+            (λ not. cut_in (Some here) (links here).next top rest (λ other. omega (arith, once other)) more joined.4 ordered.2 not)
         | inr more ↦
             let below = cut_below prev at key here children rest once more joined ordered.1
-              (λ not. cut_in (Some here) (links here).child key children (λ other. omega (arith, once other)) more joined.3 ordered.1 not) in
+            (λ not. cut_in (Some here) (links here).child key children (λ other. omega (arith, once other)) more joined.3 ordered.1 not) in
             in_children prev at top key here children rest joined.0 joined.1 (below.prev ∙ joined.2) (kept_child (Some here) (links here).next (later here).next rest below.next below.kept joined.4) ordered below.cut
       ]

@@ -1,13 +1,11 @@
 -- What a tree is once a node is taken out of its middle.
-use Rattle.std.proofs.Common.{◌≡◌, ◌≢◌, ◌⊎◌, ℕ, ◌+◌, ◌<◌, ◌≤◌, Bool, true, false, Option, Some, None, cond, refl, sym, ap, subst, ◌∙◌, inl, inr, arith}
-use Rattle.std.specs.Prelude.{◌==◌}
+use Rattle.std.proofs.Common.{◌≡◌, ◌≢◌, ◌⊎◌, ℕ, ◌+◌, ◌<◌, ◌≤◌, Bool, Option, Some, None, cond, refl, sym, ap, subst, ◌∙◌, inl, inr, arith}
 use Rattle.std.proofs.lemmas.Bool.{cases_eq}
 use Rattle.link_arena.specs.declared.arena.Links.{Links}
 use Rattle.pairing_heap.specs.Tree.{Tree, leaf, node, tally, slot_count, Joined, Ordered}
-use Rattle.pairing_heap.specs.Chain.{solo, IsRoot, Unhooks}
-use Rattle.pairing_heap.proofs.Counts.{one, one_same, one_other, slot_count-root, apart}
+use Rattle.pairing_heap.specs.Chain.{IsRoot}
+use Rattle.pairing_heap.proofs.Counts.{one_other, slot_count-root}
 use Rattle.pairing_heap.proofs.Size.{none_or_some}
-use Rattle.pairing_heap.proofs.Frame.{Kept, Joined-kept, Joined-rehung}
 use Rattle.pairing_heap.proofs.Melding.{head_in}
 
 -- a place names a slot, or not

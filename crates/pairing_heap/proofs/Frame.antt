@@ -1,5 +1,5 @@
 -- Trees stay where the keys and links of their slots stay.
-use Rattle.std.proofs.Common.{◌≡◌, ◌≢◌, ◌⊎◌, ℕ, ◌+◌, ◌<◌, ◌≤◌, Bool, Option, Some, None, refl, sym, ap, subst, ◌∙◌, inl, inr, arith}
+use Rattle.std.proofs.Common.{◌≡◌, ◌≢◌, ℕ, ◌<◌, ◌≤◌, Bool, Option, Some, sym, ap, subst, ◌∙◌, arith}
 use Rattle.link_arena.specs.declared.arena.Links.{Links}
 use Rattle.pairing_heap.specs.Tree.{Tree, leaf, node, slot_count, Joined, Ordered}
 use Rattle.pairing_heap.specs.Chain.{IsRoot, IsChain}
@@ -65,9 +65,9 @@ module _ {X : Type 0} (keys later_keys : ℕ → Option X) (links later : ℕ �
       let same = head slot joined.0 in
       let only_here : (other : ℕ) → other ≢ slot → at ≢ Some other = λ other differs is. let e = sym is ∙ joined.0 in differs (cc) in
       let in_children : (other : ℕ) → 0 < slot_count other children → other ≢ slot =
-          λ other some. apart children slot other (omega (arith, root, once slot)) some in
+      λ other some. apart children slot other (omega (arith, root, once slot)) some in
       let in_rest : (other : ℕ) → 0 < slot_count other rest → other ≢ slot =
-          λ other some. apart rest slot other (omega (arith, root, once slot)) some in
+      λ other some. apart rest slot other (omega (arith, root, once slot)) some in
       let kept_children : Kept children = record {
         keys_stay = λ other some. same_keys other (omega arith);
         links_stay = λ other some. others other (omega arith) (only_here other (in_children other some));
@@ -88,7 +88,7 @@ module _ {X : Type 0} (precedes : X → X → Bool) (keys : ℕ → Option X) (l
   pub IsChain-joined : (prev at : Option ℕ) (top : X) (tree : Tree X) → Joined keys links prev at tree → Ordered precedes top tree → IsChain precedes keys links at tree
   IsChain-joined prev at top leaf joined ordered = joined
   IsChain-joined prev at top (node key slot children rest) joined ordered = (
-        joined.0,
-        record { keyed = joined.1; joined = joined.3; ordered = ordered.1 },
-        IsChain-joined (Some slot) (links slot).next top rest joined.4 ordered.2,
-      )
+    joined.0,
+    record { keyed = joined.1; joined = joined.3; ordered = ordered.1 },
+    IsChain-joined (Some slot) (links slot).next top rest joined.4 ordered.2,
+  )

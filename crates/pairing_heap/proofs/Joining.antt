@@ -1,11 +1,10 @@
 -- What a chain of heaps makes of the root that it is melded with.
-use Rattle.std.proofs.Common.{◌≡◌, ◌≢◌, ◌⊎◌, ℕ, ◌+◌, ◌<◌, ◌≤◌, Bool, true, false, Option, Some, None, cond, refl, sym, ap, subst, ◌∙◌, inl, inr, arith}
+use Rattle.std.proofs.Common.{◌≡◌, ℕ, ◌+◌, Bool, Option, Some, None, sym, ap, subst, ◌∙◌, inl, inr, arith}
 use Rattle.std.specs.Prelude.{◌==◌}
-use Rattle.link_arena.specs.declared.arena.Links.{Links}
 use Rattle.link_arena.specs.Arena.{Arena, links_at}
-use Rattle.pairing_heap.specs.Tree.{Tree, leaf, node, tally, slot_count, IsHeap}
-use Rattle.pairing_heap.specs.Heap.{key_of_value, keys_at, LinksOnly}
-use Rattle.pairing_heap.specs.Chain.{solo, IsRoot, IsChain, CanMeld, Melds, Chained, Split, split_tally, Merges, Joins}
+use Rattle.pairing_heap.specs.Tree.{leaf, tally, slot_count, IsHeap}
+use Rattle.pairing_heap.specs.Heap.{key_of_value, keys_at}
+use Rattle.pairing_heap.specs.Chain.{solo, IsRoot, CanMeld, Melds, Split, split_tally, Merges, Joins}
 use Rattle.pairing_heap.proofs.Counts.{slot_count-root}
 use Rattle.pairing_heap.proofs.Frame.{IsRoot-kept}
 use Rattle.pairing_heap.proofs.Passes.{Kept-apart, Chained-left}
@@ -75,7 +74,7 @@ module _ {V X : Type 0} (k : ℕ) (key_of : V → X) (precedes : X → X → Boo
         | inr same ↦ ap (λ s. (links_at mid k s).prev) same ∙ other.prev
       ] in
       let total : (test : X × ℕ → Bool) → tally test (solo melds.key result melds.children) ≡ split_tally k key_of precedes old root children was test =
-          λ test. omega (arith, melds.nodes test, merges.nodes test, ap (tally test) other.is) in
+      λ test. omega (arith, melds.nodes test, merges.nodes test, ap (tally test) other.is) in
       record {
         tree = solo melds.key result melds.children;
         heap = heap_from_root precedes (keys_at key_of new) (links_at new k) result melds.key melds.children melds.rooted (melds.next ∙ next) (melds.prev ∙ prev) (λ slot. omega (arith, was.once slot, total (λ pair. pair.1 == slot)));

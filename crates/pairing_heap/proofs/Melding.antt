@@ -1,10 +1,9 @@
 -- What melding makes of trees.
-use Rattle.std.proofs.Common.{◌≡◌, ◌≢◌, ◌⊎◌, ℕ, ◌+◌, ◌<◌, ◌≤◌, Bool, true, false, Option, Some, None, is_some, refl, sym, ap, subst, ◌∙◌, inl, inr, arith}
-use Rattle.std.proofs.lemmas.Bool.{cases_eq}
+use Rattle.std.proofs.Common.{◌≡◌, ℕ, ◌+◌, ◌<◌, ◌≤◌, Bool, true, false, Option, Some, None, is_some, refl, sym, ap, subst, ◌∙◌, inl, inr, arith}
 use Rattle.link_arena.specs.declared.arena.Links.{Links}
-use Rattle.link_arena.specs.Arena.{Arena, value_at, links_at, IsLive}
+use Rattle.link_arena.specs.Arena.{Arena, value_at, links_at}
 use Rattle.pairing_heap.specs.Order.{IsStrictOrder}
-use Rattle.pairing_heap.specs.Tree.{Tree, leaf, node, tally, slot_count, Joined, Ordered}
+use Rattle.pairing_heap.specs.Tree.{Tree, leaf, node, slot_count, Joined}
 use Rattle.pairing_heap.specs.Heap.{key_of_value, keys_at, LinksOnly}
 use Rattle.pairing_heap.specs.Chain.{Adopts, CanAdopt, KeepsRest, solo, IsRoot, CanMeld, Melds}
 use Rattle.pairing_heap.proofs.Counts.{slot_count-root, apart}
@@ -48,7 +47,7 @@ module _ {X : Type 0} where
         let p = slot_count-root parent_key parent parents leaf in
         let c = slot_count-root child_key child childs leaf in
         let first : (slot : ℕ) → (links parent).child ≡ Some slot → 0 < slot_count slot parents =
-            λ slot is. head_in keys links (Some parent) (links parent).child parents slot above.joined is in
+        λ slot is. head_in keys links (Some parent) (links parent).child parents slot above.joined is in
         let childs_kept : Kept keys later_keys links later childs = record {
           keys_stay = λ slot some. same_keys slot;
           links_stay = λ slot some. adopts.elsewhere slot
@@ -57,14 +56,14 @@ module _ {X : Type 0} where
               (λ is. omega (arith, once slot, first slot is));
         } in
         let parents_kept = Joined-rehung keys later_keys links later (Some parent) (Some child) (links parent).child parents
-            (λ slot. omega (arith, once slot))
-            (λ slot some. same_keys slot)
-            adopts.beside
-            (λ slot some not_first. adopts.elsewhere slot
-              (apart parents parent slot (omega (arith, once parent, p)) some)
-              (apart parents child slot (omega (arith, once child, c)) some)
-              not_first)
-            above.joined in
+        (λ slot. omega (arith, once slot))
+        (λ slot some. same_keys slot)
+        adopts.beside
+        (λ slot some not_first. adopts.elsewhere slot
+        (apart parents parent slot (omega (arith, once parent, p)) some)
+        (apart parents child slot (omega (arith, once child, c)) some)
+        not_first)
+        above.joined in
         record {
           keyed = same_keys parent ∙ above.keyed;
           joined = (
@@ -87,7 +86,7 @@ module _ {V X : Type 0} (k : ℕ) (key_of : V → X) (precedes : X → X → Boo
       let p = slot_count-root parent_key parent parents leaf in
       let c = slot_count-root child_key child childs leaf in
       let first : (slot : ℕ) → (links_at a k parent).child ≡ Some slot → 0 < slot_count slot parents =
-          λ slot is. head_in (keys_at key_of a) (links_at a k) (Some parent) (links_at a k parent).child parents slot above.joined is in
+      λ slot is. head_in (keys_at key_of a) (links_at a k) (Some parent) (links_at a k parent).child parents slot above.joined is in
       record {
         set = set;
         parent_live = live_from_key key_of (value_at a parent) parent_key above.keyed;

@@ -1,11 +1,11 @@
 -- Each step of the passes over a chain, and what they end with.
-use Rattle.std.proofs.Common.{◌≡◌, ◌≢◌, ◌⊎◌, ℕ, ◌+◌, ◌<◌, ◌≤◌, Bool, true, false, Option, Some, None, length, refl, sym, ap, subst, ◌∙◌, inl, inr, arith}
+use Rattle.std.proofs.Common.{◌≡◌, ℕ, ◌+◌, ◌<◌, ◌≤◌, Bool, true, Option, Some, None, length, refl, sym, ap, subst, ◌∙◌, arith}
 use Rattle.std.specs.Prelude.{◌==◌}
 use Rattle.link_arena.specs.declared.arena.Links.{Links}
 use Rattle.link_arena.specs.Arena.{Arena, value_at, links_at, IsLive, Relinks}
-use Rattle.pairing_heap.specs.Tree.{Tree, leaf, node, tally, slot_count, tree_from, IsHeap}
+use Rattle.pairing_heap.specs.Tree.{Tree, leaf, node, tally, slot_count, tree_from}
 use Rattle.pairing_heap.specs.Heap.{key_of_value, keys_at, LinksOnly}
-use Rattle.pairing_heap.specs.Chain.{solo, IsRoot, IsChain, Chained, Split, split_tally, Resplits, Pairs, Folds, Halves, Rechains, Merges}
+use Rattle.pairing_heap.specs.Chain.{solo, IsChain, Chained, Split, split_tally, Resplits, Pairs, Folds, Halves, Rechains, Merges}
 use Rattle.pairing_heap.proofs.Counts.{one, one_same}
 use Rattle.pairing_heap.proofs.Size.{size, tree_from-chain}
 use Rattle.pairing_heap.proofs.Frame.{IsRoot-kept, IsChain-kept}
@@ -106,13 +106,13 @@ module _ {V X : Type 0} (k : ℕ) (key_of : V → X) (precedes : X → X → Boo
       let children = pairs.now.children in
       let written = LinksOnly-relinks k m c top record { child = (links_at m k top).child; next = done; prev = None } relinks spare in
       let total : (slot : ℕ) → (slot_count slot (solo key top children) + slot_count slot pairs.now.left) + slot_count slot halves.ready ≤ 1 =
-          λ slot. omega (arith, was.once slot, halves.nodes (λ pair. pair.1 == slot), pairs.nodes (λ pair. pair.1 == slot)) in
+      λ slot. omega (arith, was.once slot, halves.nodes (λ pair. pair.1 == slot), pairs.nodes (λ pair. pair.1 == slot)) in
       let left_kept = Kept-apart k key_of precedes m c (one top) pairs.now.left written (λ slot. omega (arith, total slot)) in
       let children_kept = Kept-apart k key_of precedes m c (one top) children written (λ slot. omega (arith, total slot)) in
       let ready_first = Kept-apart k key_of precedes b m (λ slot. slot_count slot halves.left) halves.ready pairs.kept (λ slot. omega (arith, was.once slot, halves.nodes (λ pair. pair.1 == slot))) in
       let ready_then = Kept-apart k key_of precedes m c (one top) halves.ready written (λ slot. omega (arith, total slot)) in
       let ready_chain = IsChain-kept (keys_at key_of m) (keys_at key_of c) (links_at m k) (links_at c k) precedes done halves.ready ready_then
-          (IsChain-kept (keys_at key_of b) (keys_at key_of m) (links_at b k) (links_at m k) precedes done halves.ready ready_first halves.ready_chain) in
+      (IsChain-kept (keys_at key_of b) (keys_at key_of m) (links_at b k) (links_at m k) precedes done halves.ready ready_first halves.ready_chain) in
       record {
         left = pairs.now.left;
         ready = node key top children halves.ready;
@@ -125,8 +125,8 @@ module _ {V X : Type 0} (k : ℕ) (key_of : V → X) (precedes : X → X → Boo
         nodes = λ test. omega (arith, halves.nodes test, pairs.nodes test);
         kept = LinksOnly-then k f b c (λ slot. slot_count slot was.tree) (λ slot. slot_count slot was.tree) (λ slot. slot_count slot was.tree) halves.kept
             (LinksOnly-then k b m c (λ slot. slot_count slot halves.left) (one top) (λ slot. slot_count slot was.tree) pairs.kept written
-              (λ slot none. omega (arith, none, halves.nodes (λ pair. pair.1 == slot)))
-              (λ slot none. omega (arith, none, halves.nodes (λ pair. pair.1 == slot), pairs.nodes (λ pair. pair.1 == slot))))
+            (λ slot none. omega (arith, none, halves.nodes (λ pair. pair.1 == slot)))
+            (λ slot none. omega (arith, none, halves.nodes (λ pair. pair.1 == slot), pairs.nodes (λ pair. pair.1 == slot))))
             (λ slot none. none)
             (λ slot none. none);
       }
@@ -245,7 +245,7 @@ module _ {V X : Type 0} (k : ℕ) (key_of : V → X) (precedes : X → X → Boo
   pub Folds-begin : (a : Arena V) (first : Option ℕ) (top : ℕ) (next : Option ℕ) → first ≡ Some top → next ≡ (links_at a k top).next → (was : Chained k key_of precedes a first) → Folds k key_of precedes a a first top next was
   Folds-begin a first top next is next_is =
       subst (λ (n : Option ℕ). (was : Chained k key_of precedes a first) → Folds k key_of precedes a a first top n was) (sym next_is)
-        (subst (λ (f : Option ℕ). (was : Chained k key_of precedes a f) → Folds k key_of precedes a a f top (links_at a k top).next was) (sym is) (Folds-start a top))
+      (subst (λ (f : Option ℕ). (was : Chained k key_of precedes a f) → Folds k key_of precedes a a f top (links_at a k top).next was) (sym is) (Folds-start a top))
 
   pub live_begin : (a : Arena V) (first : Option ℕ) (top : ℕ) → first ≡ Some top → Chained k key_of precedes a first → IsLive a top
   live_begin a first top is was = live_first a top (subst (λ (f : Option ℕ). Chained k key_of precedes a f) is was)

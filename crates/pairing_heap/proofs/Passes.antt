@@ -1,16 +1,14 @@
 -- The two passes over a chain of heaps.
-use Rattle.std.proofs.Common.{◌≡◌, ◌≢◌, ◌⊎◌, ℕ, ◌+◌, ◌<◌, ◌≤◌, Bool, true, false, nat_eq, Option, Some, None, is_some, List, length, get_or, refl, sym, ap, subst, ◌∙◌, inl, inr, arith}
+use Rattle.std.proofs.Common.{◌≡◌, ℕ, ◌+◌, ◌<◌, ◌≤◌, Bool, true, Option, Some, None, is_some, length, ap, subst, inl, inr, arith}
 use Rattle.std.specs.Prelude.{◌==◌}
 use Rattle.std.proofs.lemmas.Bool.{cases_lt}
 use Rattle.std.proofs.lemmas.List.{get_or_past}
-use Rattle.link_arena.specs.declared.arena.Links.{Links}
-use Rattle.link_arena.specs.Arena.{Arena, Node, value_of, node_at, value_at, links_at, IsLive, Relinks}
-use Rattle.pairing_heap.specs.Tree.{Tree, leaf, node, tally, slot_count, tree_from, Joined, Ordered, IsHeap}
+use Rattle.link_arena.specs.Arena.{Arena, value_of, value_at, links_at, IsLive}
+use Rattle.pairing_heap.specs.Tree.{Tree, leaf, node, tally, slot_count}
 use Rattle.pairing_heap.specs.Heap.{key_of_value, keys_at, LinksOnly}
-use Rattle.pairing_heap.specs.Chain.{KeepsRest, solo, IsRoot, IsChain, CanMeld, Melds, Chained, Split, split_tally, Resplits, Pairs, Folds, Halves, Rechains, Merges}
-use Rattle.pairing_heap.proofs.Counts.{slot_count-root, apart}
-use Rattle.pairing_heap.proofs.Size.{size, size-most, tree_from-chain, keyed-chain}
-use Rattle.pairing_heap.proofs.Frame.{Kept, IsRoot-kept, IsChain-kept}
+use Rattle.pairing_heap.specs.Chain.{solo, IsRoot, IsChain, CanMeld, Melds, Chained, Split, split_tally, Resplits}
+use Rattle.pairing_heap.proofs.Size.{size, size-most, keyed-chain}
+use Rattle.pairing_heap.proofs.Frame.{Kept, IsChain-kept}
 use Rattle.pairing_heap.proofs.Melding.{live_from_key}
 
 -- a slot with a value is below the length of the arena's list
@@ -37,8 +35,8 @@ module _ {V X : Type 0} (k : ℕ) (key_of : V → X) (precedes : X → X → Boo
   pub size-chained : (a : Arena V) (first : Option ℕ) (was : Chained k key_of precedes a first) → size was.tree ≤ length a.nodes
   size-chained a first was =
       size-most (length a.nodes) was.tree was.once (λ slot some.
-        let keyed = keyed-chain precedes (keys_at key_of a) (links_at a k) first was.tree slot was.chain some in
-        within_from_live a slot (live_from_key key_of (value_at a slot) keyed.0 keyed.1))
+      let keyed = keyed-chain precedes (keys_at key_of a) (links_at a k) first was.tree slot was.chain some in
+      within_from_live a slot (live_from_key key_of (value_at a slot) keyed.0 keyed.1))
 
   split_node : (a : Arena V) (key : X) (slot top : ℕ) (children rest : Tree X) → k < 2 → Some top ≡ Some slot → IsRoot precedes (keys_at key_of a) (links_at a k) slot key children → ChainAt a (links_at a k slot).next rest → ((other : ℕ) → slot_count other (node key slot children rest) ≤ 1) → (split : Split k key_of precedes a top (links_at a k top).next) × ((test : X × ℕ → Bool) → split_tally k key_of precedes a top (links_at a k top).next split test ≡ tally test (node key slot children rest))
   split_node a key slot top children rest set is rooted chain once =
@@ -82,7 +80,7 @@ module _ {V X : Type 0} (k : ℕ) (key_of : V → X) (precedes : X → X → Boo
       let second = split_chain old other (Chained-left old top (Some other) was) in
       let both = CanMeld-next old top other was in
       let apart : (slot : ℕ) → (slot_count slot (solo both.a_key top both.a_children) + slot_count slot (solo both.b_key other both.b_children)) + slot_count slot second.0.left ≤ 1 =
-          λ slot. omega (arith, was.once slot, second.1 (λ pair. pair.1 == slot)) in
+      λ slot. omega (arith, was.once slot, second.1 (λ pair. pair.1 == slot)) in
       let kept = Kept-apart old new (λ slot. slot_count slot (solo both.a_key top both.a_children) + slot_count slot (solo both.b_key other both.b_children)) second.0.left melds.kept apart in
       record {
         now = record {

@@ -1,16 +1,13 @@
 -- What a slot with another value makes of a heap: it is taken out, gets the value, and is pushed again.
-use Rattle.std.proofs.Common.{◌≡◌, ◌≢◌, ◌⊎◌, ℕ, ◌+◌, ◌<◌, ◌≤◌, Bool, true, false, List, ◌∷◌, Option, Some, None, is_some, count_by, cond, refl, sym, ap, subst, ◌∙◌, inl, inr, arith}
+use Rattle.std.proofs.Common.{◌≡◌, ℕ, ◌+◌, Bool, Option, Some, None, count_by, cond, sym, ap, ◌∙◌, arith}
 use Rattle.std.specs.Prelude.{◌==◌}
 use Rattle.link_arena.specs.Arena.{Arena, value_at, links_at, IsLive, Revalues}
-use Rattle.pairing_heap.specs.Tree.{Tree, pairs, tally, slot_count}
-use Rattle.pairing_heap.specs.Heap.{times_of, key_of_value, keys_at, tree_at, pairs_at, Stands, Holds, Lacks, LinksOnly, IsApart, OthersStay, AddsPair, TakesPair, RekeysPair}
-use Rattle.pairing_heap.proofs.Counts.{one, one_same, apart}
-use Rattle.pairing_heap.proofs.Frame.{Kept}
+use Rattle.pairing_heap.specs.Heap.{times_of, key_of_value, keys_at, tree_at, pairs_at, Stands, Holds, Lacks, AddsPair, TakesPair, RekeysPair}
+use Rattle.pairing_heap.proofs.Counts.{one_same, apart}
 use Rattle.pairing_heap.proofs.Size.{keyed-joined}
 use Rattle.pairing_heap.proofs.Melding.{live_from_key}
 use Rattle.pairing_heap.proofs.Standing.{Stands-kept, count_by-stands, count_by-more}
 use Rattle.pairing_heap.proofs.Adding.{key_from_live}
-use Rattle.pairing_heap.proofs.Removing.{some_held}
 
 module _ {V X : Type 0} (k : ℕ) (key_of : V → X) (precedes : X → X → Bool) where
   -- a heap without the slot stays while the slot gets a value
@@ -35,17 +32,17 @@ module _ {V X : Type 0} (k : ℕ) (key_of : V → X) (precedes : X → X → Boo
       let still = Stands-revalued b c mid slot value revalues takes.stands lacks in
       let new_key = ap (key_of_value key_of) revalues.here in
       let counts : (key : X) → keys_at key_of a slot ≡ Some key → (test : X × ℕ → Bool) → cond (test (key, slot)) 1 0 + count_by test (pairs_at k key_of d later) ≡ cond (test (key_of value, slot)) 1 0 + count_by test (pairs_at k key_of a heap) =
-          λ key keyed test. omega (
-            arith,
-            takes.pairs key keyed test,
-            count_by-more test (key, slot) (pairs_at k key_of b mid),
-            adds.pairs (key_of value) new_key test,
-            count_by-more test (key_of value, slot) (pairs_at k key_of c mid),
-            ap (count_by test) still.1
-          ) in
+      λ key keyed test. omega (
+        arith,
+        takes.pairs key keyed test,
+        count_by-more test (key, slot) (pairs_at k key_of b mid),
+        adds.pairs (key_of value) new_key test,
+        count_by-more test (key_of value, slot) (pairs_at k key_of c mid),
+        ap (count_by test) still.1,
+      ) in
       let keyed = key_from_live key_of (value_at a slot) live in
       let same_times : (other : ℕ) → times_of (pairs_at k key_of d later) other ≡ times_of (pairs_at k key_of a heap) other =
-          λ other. omega (arith, counts keyed.0 keyed.1 (λ pair. pair.1 == other)) in
+      λ other. omega (arith, counts keyed.0 keyed.1 (λ pair. pair.1 == other)) in
       record {
         stands = adds.stands;
         stored = adds.kept.values slot ∙ revalues.here;

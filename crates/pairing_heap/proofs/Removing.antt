@@ -1,20 +1,19 @@
 -- What taking a slot out of the middle makes of a heap.
-use Rattle.std.proofs.Common.{◌≡◌, ◌≢◌, ◌⊎◌, ℕ, ◌+◌, ◌<◌, ◌≤◌, Bool, true, false, List, Option, Some, None, is_some, IsSome, count_by, cond, refl, sym, ap, subst, ◌∙◌, inl, inr, arith}
+use Rattle.std.proofs.Common.{◌≡◌, ◌≢◌, ℕ, ◌+◌, ◌<◌, ◌≤◌, Bool, Option, Some, None, IsSome, count_by, cond, refl, sym, ap, subst, ◌∙◌, arith}
 use Rattle.std.specs.Prelude.{◌==◌}
-use Rattle.link_arena.specs.declared.arena.Links.{Links}
 use Rattle.link_arena.specs.Arena.{Arena, value_at, links_at, IsLive, unlinked, Relinks}
-use Rattle.pairing_heap.specs.Tree.{Tree, leaf, node, pairs, tally, slot_count, Joined, IsHeap}
+use Rattle.pairing_heap.specs.Tree.{Tree, leaf, tally, slot_count, Joined}
 use Rattle.pairing_heap.specs.Heap.{times_of, key_of_value, keys_at, tree_at, pairs_at, Stands, Holds, LinksOnly, TakesPair}
-use Rattle.pairing_heap.specs.Chain.{solo, IsRoot, IsChain, Unhooks, CanUnhook, KeepsRest, Split, split_tally, Joins}
-use Rattle.pairing_heap.proofs.Counts.{one, one_same, one_other, slot_count-root, apart}
+use Rattle.pairing_heap.specs.Chain.{solo, IsRoot, Unhooks, CanUnhook, KeepsRest, Split, split_tally, Joins}
+use Rattle.pairing_heap.proofs.Counts.{one, one_same, one_other, apart}
 use Rattle.pairing_heap.proofs.Size.{keyed-joined}
 use Rattle.pairing_heap.proofs.Frame.{Kept, IsRoot-kept, IsChain-kept, IsChain-joined}
 use Rattle.pairing_heap.proofs.Melding.{live_from_key}
 use Rattle.pairing_heap.proofs.Pairing.{LinksOnly-relinks, LinksOnly-then}
-use Rattle.pairing_heap.proofs.Standing.{HasRoot, has_root, no_root, count_by-stands}
+use Rattle.pairing_heap.proofs.Standing.{no_root, count_by-stands}
 use Rattle.pairing_heap.proofs.Taking.{Takes-links, root_of}
 use Rattle.pairing_heap.proofs.Cutting.{pred_in, next_in}
-use Rattle.pairing_heap.proofs.Cuts.{Cut, CutBelow, cut_below, cut_in}
+use Rattle.pairing_heap.proofs.Cuts.{cut_below, cut_in}
 
 module _ {V X : Type 0} (k : ℕ) (key_of : V → X) (precedes : X → X → Bool) where
   -- a heap that holds a slot has a root
@@ -41,7 +40,7 @@ module _ {V X : Type 0} (k : ℕ) (key_of : V → X) (precedes : X → X → Boo
   inner_held a root slot stands held differs =
       let before = root_of k key_of precedes a root stands in
       let nodes : (test : X × ℕ → Bool) → count_by test (pairs_at k key_of a (Some root)) ≡ tally test (solo before.key root before.children) =
-          λ test. count_by-stands k key_of precedes a (Some root) test ∙ ap (tally test) before.is in
+      λ test. count_by-stands k key_of precedes a (Some root) test ∙ ap (tally test) before.is in
       record {
         set = stands.set;
         key = before.key;
@@ -118,15 +117,15 @@ module _ {V X : Type 0} (k : ℕ) (key_of : V → X) (precedes : X → X → Boo
         elsewhere = λ other none.
             let absent : slot_count other (solo inner.key root inner.children) ≡ 0 = sym (inner.nodes (λ pair. pair.1 == other)) ∙ none in
             unhooks.elsewhere other
-              (λ same. omega (arith, absent, before.inside, ap (λ s. slot_count s (solo inner.key root inner.children)) same))
-              (λ is. omega (arith, absent, next_inside old root slot other inner is));
+            (λ same. omega (arith, absent, before.inside, ap (λ s. slot_count s (solo inner.key root inner.children)) same))
+            (λ is. omega (arith, absent, next_inside old root slot other inner is));
       }
 
   pub Outside-unhooked : (old mid new : Arena V) (root slot pred : ℕ) (inner : Inner old root slot) → Before old root slot pred inner → Unhooks (links_at old k) (links_at mid k) slot pred → KeepsRest k old mid → Relinks mid new k slot unlinked → new.spare ≡ mid.spare → Outside old new root slot
   Outside-unhooked old mid new root slot pred inner before unhooks rest relinks spare =
       let keys = keys_at key_of old in
       let below = cut_below precedes keys (links_at old k) (links_at mid k) slot pred unhooks before.prev_is None (Some root) inner.key root inner.children leaf inner.once inner.inside inner.joined inner.rooted.ordered
-          (λ not. cut_in precedes keys (links_at old k) (links_at mid k) slot pred unhooks before.prev_is (Some root) (links_at old k root).child inner.key inner.children (λ other. omega (arith, inner.once other)) inner.inside inner.joined.3 inner.rooted.ordered not) in
+      (λ not. cut_in precedes keys (links_at old k) (links_at mid k) slot pred unhooks before.prev_is (Some root) (links_at old k root).child inner.key inner.children (λ other. omega (arith, inner.once other)) inner.inside inner.joined.3 inner.rooted.ordered not) in
       let cut = below.cut in
       let same_keys : (other : ℕ) → keys_at key_of new other ≡ keys other = λ other. ap (key_of_value key_of) (relinks.values other ∙ rest.values other) in
       let total : (other : ℕ) → (one slot other + slot_count other cut.below) + slot_count other cut.rest ≤ 1 = λ other. omega (arith, inner.once other, cut.nodes (λ pair. pair.1 == other)) in
@@ -170,11 +169,11 @@ module _ {V X : Type 0} (k : ℕ) (key_of : V → X) (precedes : X → X → Boo
   pub Takes-inner : (old mid new : Arena V) (root slot result : ℕ) → Stands k key_of precedes old (Some root) → (outside : Outside old mid root slot) → Joins k key_of precedes mid new root (links_at old k slot).child result outside.split → TakesPair k key_of precedes old new (Some root) (Some result) slot
   Takes-inner old mid new root slot result stands outside joins =
       Takes-links k key_of precedes old new (Some root) (Some result) slot outside.key joins.tree stands.set outside.keyed joins.heap
-        (λ test. omega (arith, outside.nodes test, joins.nodes test))
-        (joins.kept.elsewhere slot outside.absent ∙ outside.free)
-        (LinksOnly-then k old mid new (times_of (pairs_at k key_of old (Some root))) (λ other. split_tally k key_of precedes mid root (links_at old k slot).child outside.split (λ pair. pair.1 == other)) (times_of (pairs_at k key_of old (Some root))) outside.kept joins.kept
-          (λ other none. none)
-          (λ other none. omega (arith, none, outside.nodes (λ pair. pair.1 == other))))
+      (λ test. omega (arith, outside.nodes test, joins.nodes test))
+      (joins.kept.elsewhere slot outside.absent ∙ outside.free)
+      (LinksOnly-then k old mid new (times_of (pairs_at k key_of old (Some root))) (λ other. split_tally k key_of precedes mid root (links_at old k slot).child outside.split (λ pair. pair.1 == other)) (times_of (pairs_at k key_of old (Some root))) outside.kept joins.kept
+      (λ other none. none)
+      (λ other none. omega (arith, none, outside.nodes (λ pair. pair.1 == other))))
 
   -- the same, where the slot's first child is known by another name
   pub Takes-inner-at : (old mid new : Arena V) (root slot result : ℕ) (at : Option ℕ) → (links_at old k slot).child ≡ at → Stands k key_of precedes old (Some root) → Outside old mid root slot → ((was : Split k key_of precedes mid root at) → (links_at mid k root).next ≡ None → (links_at mid k root).prev ≡ None → Joins k key_of precedes mid new root at result was) → TakesPair k key_of precedes old new (Some root) (Some result) slot

@@ -1,9 +1,9 @@
 -- A tree without repetition has no more nodes than there are slots, so a walk as deep as that finds it whole.
-use Rattle.std.proofs.Common.{◌≡◌, ◌≢◌, ◌⊎◌, ℕ, zero, suc, ◌+◌, ◌<◌, ◌≤◌, Bool, true, false, Option, Some, None, refl, sym, ap, subst, ◌∙◌, inl, inr, arith}
+use Rattle.std.proofs.Common.{◌≡◌, ◌⊎◌, ℕ, zero, suc, ◌+◌, ◌<◌, ◌≤◌, Bool, true, Option, Some, refl, sym, ap, ◌∙◌, inl, inr, arith}
 use Rattle.std.proofs.lemmas.Bool.{cases_eq}
 use Rattle.link_arena.specs.declared.arena.Links.{Links}
-use Rattle.pairing_heap.specs.Tree.{Tree, leaf, node, node_with, tally, slot_count, tree_from, Joined}
-use Rattle.pairing_heap.specs.Chain.{IsRoot, IsChain}
+use Rattle.pairing_heap.specs.Tree.{Tree, leaf, node, tally, slot_count, tree_from, Joined}
+use Rattle.pairing_heap.specs.Chain.{IsChain}
 use Rattle.pairing_heap.proofs.Counts.{one, one_same, one_other}
 
 -- how many nodes a tree has
@@ -53,7 +53,7 @@ module _ {X : Type 0} where
         sum_below-add n (one slot) (λ x. slot_count x children) (λ x. slot_count x rest),
         sum_below-one n slot (below slot (omega (arith, one_same slot))),
         size-sum n children (λ x some. below x (omega arith)),
-        size-sum n rest (λ x some. below x (omega arith))
+        size-sum n rest (λ x some. below x (omega arith)),
       )
 
   -- a tree without repetition has no more nodes than there are slots

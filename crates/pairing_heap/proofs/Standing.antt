@@ -1,14 +1,13 @@
 -- What it is that a heap stands in an arena.
-use Rattle.std.proofs.Common.{◌≡◌, ◌≢◌, ◌⊎◌, ℕ, ◌+◌, ◌<◌, ◌≤◌, Bool, true, false, List, [], ◌∷◌, ◌++◌, Option, Some, None, length, count_by, cond, refl, sym, ap, subst, ◌∙◌, inl, inr, arith}
+use Rattle.std.proofs.Common.{◌≡◌, ℕ, ◌+◌, ◌<◌, ◌≤◌, Bool, List, ◌∷◌, ◌++◌, Option, Some, None, length, count_by, cond, refl, sym, ap, subst, ◌∙◌, arith}
 use Rattle.std.specs.Prelude.{◌==◌}
 use Rattle.std.proofs.lemmas.List.Sums.{sum_by-cons, sum_by-append}
 use Rattle.link_arena.specs.declared.arena.Links.{Links}
-use Rattle.link_arena.specs.Arena.{Arena, value_at, links_at, IsLive, unlinked, Relinks}
-use Rattle.pairing_heap.specs.Tree.{Tree, leaf, node, pairs, tally, slot_count, tree_from, Joined, Ordered, IsHeapOrdered, IsHeap}
-use Rattle.pairing_heap.specs.Heap.{SameElements, times_of, key_of_value, keys_at, tree_at, pairs_at, Stands, Holds, Lacks, LinksOnly, IsApart, OthersStay, SameSlots}
-use Rattle.pairing_heap.specs.Chain.{solo, IsRoot, IsChain, Chained, Merges, CanMeld, Melds}
-use Rattle.pairing_heap.proofs.Counts.{slot_count-root}
-use Rattle.pairing_heap.proofs.Size.{size, size-most, tree_from-joined, keyed-joined}
+use Rattle.link_arena.specs.Arena.{Arena, value_at, links_at}
+use Rattle.pairing_heap.specs.Tree.{Tree, leaf, node, pairs, tally, slot_count, Joined, Ordered, IsHeap}
+use Rattle.pairing_heap.specs.Heap.{key_of_value, keys_at, tree_at, pairs_at, Stands, LinksOnly, OthersStay, SameSlots}
+use Rattle.pairing_heap.specs.Chain.{solo, IsRoot}
+use Rattle.pairing_heap.proofs.Size.{size-most, tree_from-joined, keyed-joined}
 use Rattle.pairing_heap.proofs.Frame.{Kept, Joined-kept}
 use Rattle.pairing_heap.proofs.Melding.{live_from_key}
 use Rattle.pairing_heap.proofs.Passes.{within_from_live}
@@ -23,7 +22,7 @@ module _ {X : Type 0} where
         sum_by-cons (λ pair. cond (test pair) 1 0) (key, slot) (pairs children ++ pairs rest),
         sum_by-append (λ pair. cond (test pair) 1 0) (pairs children) (pairs rest),
         count_by-pairs test children,
-        count_by-pairs test rest
+        count_by-pairs test rest,
       )
 
   pub count_by-more : (test : X × ℕ → Bool) (pair : X × ℕ) (xs : List (X × ℕ)) → count_by test (pair ∷ xs) ≡ cond (test pair) 1 0 + count_by test xs
@@ -77,8 +76,8 @@ module _ {V X : Type 0} (k : ℕ) (key_of : V → X) (precedes : X → X → Boo
   pub tree_at-heap : (a : Arena V) (root : Option ℕ) (tree : Tree X) → HeapAt a root tree → tree_at k key_of a root ≡ tree
   tree_at-heap a root tree heap =
       let deep = size-most (length a.nodes) tree heap.once (λ slot some.
-        let keyed = keyed-joined (keys_at key_of a) (links_at a k) None root tree slot heap.joined some in
-        within_from_live a slot (live_from_key key_of (value_at a slot) keyed.0 keyed.1)) in
+      let keyed = keyed-joined (keys_at key_of a) (links_at a k) None root tree slot heap.joined some in
+      within_from_live a slot (live_from_key key_of (value_at a slot) keyed.0 keyed.1)) in
       tree_from-joined (keys_at key_of a) (links_at a k) (length a.nodes) None root tree deep heap.joined
 
   pub Stands-heap : (a : Arena V) (root : Option ℕ) (tree : Tree X) → k < 2 → HeapAt a root tree → Stands k key_of precedes a root
@@ -119,3 +118,7 @@ module _ {V X : Type 0} (k : ℕ) (key_of : V → X) (precedes : X → X → Boo
         keys_stay = λ slot some. ap (key_of_value key_of) (kept.values slot);
         links_stay = λ slot some. kept.elsewhere slot (omega (arith, count_by-stands old root (λ pair. pair.1 == slot), some, apart slot));
       }
+
+  -- the empty heap stands in every arena
+  pub Stands-empty : (a : Arena V) → k < 2 → Stands k key_of precedes a None
+  Stands-empty a set = Stands-heap a None leaf set record { joined = refl; once = λ slot. omega arith; ordered = tt }

@@ -1,13 +1,12 @@
 -- What taking a slot out makes of a heap.
-use Rattle.std.proofs.Common.{◌≡◌, ◌≢◌, ◌⊎◌, ℕ, ◌+◌, ◌<◌, ◌≤◌, Bool, true, false, List, [], ◌∷◌, Option, Some, None, is_some, length, count_by, cond, refl, sym, ap, subst, ◌∙◌, inl, inr, arith}
+use Rattle.std.proofs.Common.{◌≡◌, ℕ, ◌+◌, ◌<◌, ◌≤◌, Bool, Option, Some, count_by, cond, sym, ap, ◌∙◌, arith}
 use Rattle.std.specs.Prelude.{◌==◌}
-use Rattle.link_arena.specs.declared.arena.Links.{Links}
 use Rattle.link_arena.specs.Arena.{Arena, value_at, links_at, IsLive, unlinked, Relinks}
-use Rattle.pairing_heap.specs.Tree.{Tree, leaf, node, pairs, tally, slot_count, IsHeap}
-use Rattle.pairing_heap.specs.Heap.{SameElements, times_of, key_of_value, keys_at, tree_at, pairs_at, Stands, Holds, Lacks, LinksOnly, TakesPair}
-use Rattle.pairing_heap.specs.Chain.{solo, IsRoot, IsChain, Chained, Merges}
-use Rattle.pairing_heap.proofs.Counts.{one, one_same, one_most, slot_count-root}
-use Rattle.pairing_heap.proofs.Frame.{Kept, IsChain-kept, IsChain-joined}
+use Rattle.pairing_heap.specs.Tree.{Tree, tally, slot_count, IsHeap}
+use Rattle.pairing_heap.specs.Heap.{times_of, keys_at, tree_at, pairs_at, Stands, LinksOnly, TakesPair}
+use Rattle.pairing_heap.specs.Chain.{solo, Chained, Merges}
+use Rattle.pairing_heap.proofs.Counts.{one, one_same}
+use Rattle.pairing_heap.proofs.Frame.{IsChain-kept, IsChain-joined}
 use Rattle.pairing_heap.proofs.Melding.{live_from_key}
 use Rattle.pairing_heap.proofs.Passes.{Kept-apart}
 use Rattle.pairing_heap.proofs.Pairing.{LinksOnly-relinks, LinksOnly-then}
@@ -62,8 +61,8 @@ module _ {V X : Type 0} (k : ℕ) (key_of : V → X) (precedes : X → X → Boo
       let written = LinksOnly-relinks k old mid root unlinked relinks spare in
       let absent : slot_count root children.0.tree ≡ 0 = omega (arith, stands.heap.once root, count_by-stands k key_of precedes old (Some root) (λ pair. pair.1 == root), children.1 (λ pair. pair.1 == root), one_same root) in
       Takes-links old new (Some root) later root before.key merges.tree stands.set before.rooted.keyed merges.heap
-        (λ test. omega (arith, children.1 test, merges.nodes test))
-        (merges.kept.elsewhere root absent ∙ relinks.here)
-        (LinksOnly-then k old mid new (one root) (λ slot. slot_count slot children.0.tree) (times_of (pairs_at k key_of old (Some root))) written merges.kept
-          (λ slot none. omega (arith, none, children.1 (λ pair. pair.1 == slot)))
-          (λ slot none. omega (arith, none, children.1 (λ pair. pair.1 == slot))))
+      (λ test. omega (arith, children.1 test, merges.nodes test))
+      (merges.kept.elsewhere root absent ∙ relinks.here)
+      (LinksOnly-then k old mid new (one root) (λ slot. slot_count slot children.0.tree) (times_of (pairs_at k key_of old (Some root))) written merges.kept
+      (λ slot none. omega (arith, none, children.1 (λ pair. pair.1 == slot)))
+      (λ slot none. omega (arith, none, children.1 (λ pair. pair.1 == slot))))

@@ -1,6 +1,5 @@
 -- What contracts say of a heap: with its arena, it is a list of keys and slots.
-use Rattle.std.specs.Prelude.{◌≡◌, ◌≢◌, ℕ, ◌+◌, ◌<◌, ◌≤◌, Bool, true, false, List, [], ◌∷◌, length, Option, Some, None, count_by, ◌==◌, All}
-use Rattle.link_arena.specs.declared.arena.Links.{Links}
+use Rattle.std.specs.Prelude.{◌≡◌, ◌≢◌, ℕ, ◌+◌, ◌<◌, ◌≤◌, Bool, false, List, ◌∷◌, length, Option, Some, None, count_by, ◌==◌, All}
 use Rattle.link_arena.specs.Arena.{Arena, value_at, links_at, unlinked}
 use Rattle.pairing_heap.specs.Tree.{Tree, pairs, tree_from, IsHeap}
 

@@ -52,8 +52,14 @@ impl<const K: usize> Heap<K> {
         ensures none { IsNone self.now ↔ (pairs_at K V.key_of _arena.now self.now ≡ []) }
         ensures held { IfSome self.now (λ slot. Holds K V.key_of _arena.now self.now slot) }
         ensures least { IfSome self.now (λ slot. IsLeast K V.key_of V.Key.precedes _arena.now self.now slot) }
-    {
-    }
+    {}
+
+    /// Makes no step: the empty heap stands in every arena.
+    pub fn stands_when_empty<V: Keyed<K>>(&self, _arena: &Arena<V>)
+        requires set { K < 2 }
+        requires empty { self.now ≡ None }
+        ensures { Stands K V.key_of V.Key.precedes _arena.now self.now }
+    {}
 
     /// Makes no step: a heap whose slots have the same keys and links in two arenas stands in the second where it stands
     /// in the first.
@@ -62,8 +68,7 @@ impl<const K: usize> Heap<K> {
         requires same { SameSlots K V.key_of _before.now _after.now self.now }
         ensures stands { Stands K V.key_of V.Key.precedes _after.now self.now }
         ensures pairs { pairs_at K V.key_of _after.now self.now ≡ pairs_at K V.key_of _before.now self.now }
-    {
-    }
+    {}
 
     /// Adds a slot, which holds a value and is in no heap of the set, with one comparison at most and none where the heap
     /// is empty.

@@ -5,8 +5,6 @@ mod heap;
 mod key;
 mod meld;
 mod steps;
-#[cfg(test)]
-mod tests;
 
 pub use heap::Heap;
 pub use key::{HeapKey, Keyed};

@@ -1,5 +1,5 @@
 -- Each step takes one root from what is left.
-use Rattle.std.proofs.Common.{sym, ap, ◌∙◌, arith, length}
+use Rattle.std.proofs.Common.{ap, arith, length}
 use Rattle.pairing_heap.proofs.Pairing.{Folds-begin, Folds-step, Folds-less, Folds-at, Merges-done, Merges-nowhere, live_begin, live_top, walk_size}
 use Rattle.pairing_heap.proofs.meld.fold_up.Goals as goal
 
@@ -18,8 +18,8 @@ set_next-requires g c = record { set = c.requires.set; live = live_top g.row.K g
 pub loop-rest-preserved : goal.loop-rest-preserved
 loop-rest-preserved g c = (
   λ was.
-    let folds = Folds-at g.row.K g.V.Keyed.key_of g.V.Key.HeapKey.precedes _ _ _ _ _ _ was c.in-Some.is (c.loop-rest.invariant.0 was) in
-    Folds-step g.row.K g.V.Keyed.key_of g.V.Key.HeapKey.precedes _ _ _ _ _ _ _ _ was folds (c.meld_next.ensures.splits folds.now),
+      let folds = Folds-at g.row.K g.V.Keyed.key_of g.V.Key.HeapKey.precedes _ _ _ _ _ _ was c.in-Some.is (c.loop-rest.invariant.0 was) in
+      Folds-step g.row.K g.V.Keyed.key_of g.V.Key.HeapKey.precedes _ _ _ _ _ _ _ _ was folds (c.meld_next.ensures.splits folds.now),
   omega (arith, c.loop-rest.invariant.1, c.meld_next.ensures.ticks),
 )
 

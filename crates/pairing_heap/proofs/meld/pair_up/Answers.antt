@@ -1,5 +1,5 @@
 -- Each step takes one or two roots from what is left, and puts one to what is done.
-use Rattle.std.proofs.Common.{sym, ap, ◌∙◌, arith, length}
+use Rattle.std.proofs.Common.{ap, arith, length}
 use Rattle.pairing_heap.proofs.Pairing.{Halves-start, Halves-step, Halves-less, Halves-at, Rechains-done, Chained-halves, live_top, walk_size}
 use Rattle.pairing_heap.proofs.meld.pair_up.Goals as goal
 
@@ -20,9 +20,9 @@ set_next-requires g c =
 pub loop-rest-preserved : goal.loop-rest-preserved
 loop-rest-preserved g c = (
   λ was.
-    let halves = Halves-at g.row.K g.V.Keyed.key_of g.V.Key.HeapKey.precedes _ _ _ _ _ _ was c.in-Some.is (c.loop-rest.invariant.0 was) in
-    let pairs = c.first_pair-top.ensures.pairs (Chained-halves g.row.K g.V.Keyed.key_of g.V.Key.HeapKey.precedes _ _ _ _ _ was halves) in
-    Halves-step g.row.K g.V.Keyed.key_of g.V.Key.HeapKey.precedes _ _ _ _ _ _ _ _ _ was halves pairs c.set_next.ensures.relinks c.set_next.ensures.spare,
+      let halves = Halves-at g.row.K g.V.Keyed.key_of g.V.Key.HeapKey.precedes _ _ _ _ _ _ was c.in-Some.is (c.loop-rest.invariant.0 was) in
+      let pairs = c.first_pair-top.ensures.pairs (Chained-halves g.row.K g.V.Keyed.key_of g.V.Key.HeapKey.precedes _ _ _ _ _ was halves) in
+      Halves-step g.row.K g.V.Keyed.key_of g.V.Key.HeapKey.precedes _ _ _ _ _ _ _ _ _ was halves pairs c.set_next.ensures.relinks c.set_next.ensures.spare,
   omega (arith, c.loop-rest.invariant.1, c.first_pair-top.ensures.ticks),
 )
 

@@ -1,5 +1,5 @@
 -- The slot is the root, or it stands below the root.
-use Rattle.std.proofs.Common.{sym, ap, subst, ℕ, Option, Some}
+use Rattle.std.proofs.Common.{sym, subst, ℕ, Option, Some}
 use Rattle.pairing_heap.specs.Heap.{Stands, Holds, TakesPair}
 use Rattle.pairing_heap.proofs.Removing.{some_held}
 use Rattle.pairing_heap.proofs.meld.take_slot.Goals as goal

@@ -1,5 +1,5 @@
 -- Any value may be written, so the cell has one afterwards.
-use Rattle.std.proofs.Common.{refl, sym, ap, ◌∙◌, vec_len, is_some}
+use Rattle.std.proofs.Common.{refl, sym, ap, ◌∙◌, vec_len}
 use Rattle.std.specs.Option.{option_copied_mut}
 use Rattle.link_arena.specs.Arena.{value_at, with_value}
 use Rattle.link_arena.proofs.SoundLemmas.{IsSound-written}

@@ -1,5 +1,5 @@
 -- The cell had a value and waits for one, and its number is listed.
-use Rattle.std.proofs.Common.{refl, ap, ◌∙◌, vec_len, is_some}
+use Rattle.std.proofs.Common.{ap, vec_len, is_some}
 use Rattle.slab.proofs.SlabLemmas.{Updates-with_value}
 use Rattle.link_arena.proofs.SoundLemmas.{IsSound-emptied}
 use Rattle.link_arena.proofs.MapLemmas.{Removes-updates, value_from_live}

@@ -1,5 +1,5 @@
 -- One cell is written, which has a value before and after.
-use Rattle.std.proofs.Common.{refl, ap, ◌∙◌, vec_len, is_some}
+use Rattle.std.proofs.Common.{refl, ap, vec_len, is_some}
 use Rattle.slab.proofs.SlabLemmas.{Updates-with_value}
 use Rattle.link_arena.proofs.SoundLemmas.{IsSound-written}
 use Rattle.link_arena.proofs.MapLemmas.{Revalues-updates, value_from_live}

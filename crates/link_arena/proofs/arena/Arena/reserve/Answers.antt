@@ -1,5 +1,5 @@
 -- A cell that waits is added, and its number is listed.
-use Rattle.std.proofs.Common.{◌≡◌, ◌+◌, ◌≤◌, refl, sym, ap, ◌∙◌, arith, None, vec_capacity}
+use Rattle.std.proofs.Common.{◌≡◌, ◌+◌, ◌≤◌, refl, ap, ◌∙◌, arith, vec_capacity}
 use Rattle.slab.specs.Slab.{get, slab_len}
 use Rattle.link_arena.proofs.SoundLemmas.{IsSound-more}
 use Rattle.link_arena.proofs.MapLemmas.{SameMap-updates, Updates-added}
