@@ -3,3 +3,5 @@ pub mod Lists
 pub mod KnownBytes
 pub mod Newlines
 pub mod Windows
+pub mod NextLines
+pub mod ToldBytes

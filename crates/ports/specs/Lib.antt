@@ -6,3 +6,4 @@ pub mod Judging
 pub mod Seeking
 pub mod Feeds
 pub mod LineFeed
+pub mod NextLine

@@ -1,5 +1,5 @@
 //! A sink for tests.
-ghost use Rattle.std.specs.Prelude.{◌≡◌, ℕ, ◌-◌, ◌<◌, ◌≤◌, ◌↔◌, List, [], length, min, Some, IsErr, IfOk, IsTrue, OnOk, OnErr, Result, vec_len, vec_capacity};
+ghost use Rattle.std.specs.Prelude.{◌≡◌, ◌-◌, ◌<◌, ◌≤◌, ◌↔◌, [], length, min, Some, IsErr, IfOk, IsTrue, OnOk, OnErr, Result, vec_len, vec_capacity};
 ghost use Rattle.std.specs.Io.KnownBytes.{WriteAppends};
 ghost use Rattle.ports.specs.Devices.{HasCause, TakesSome};
 ghost use Rattle.ports.specs.Pieces.{Store, is_refused, one_more};

@@ -1,5 +1,5 @@
 //! A source for tests.
-ghost use Rattle.std.specs.Prelude.{◌≡◌, ℕ, ◌<◌, ◌≤◌, ◌↔◌, List, length, min, take, drop, Some, IsErr, IfOk, IsTrue, OnOk, OnErr, Result};
+ghost use Rattle.std.specs.Prelude.{◌≡◌, ◌<◌, ◌≤◌, ◌↔◌, length, min, take, drop, Some, IsErr, IfOk, IsTrue, OnOk, OnErr, Result};
 ghost use Rattle.std.specs.Io.{ReadsAtMost};
 ghost use Rattle.std.specs.Io.KnownBytes.{ReadConsumes};
 ghost use Rattle.ports.specs.Devices.{HasCause, EndsRightly};

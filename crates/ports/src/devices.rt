@@ -1,5 +1,5 @@
 //! The two traits that a program's core reads from and writes to.
-ghost use Rattle.std.specs.Prelude.{◌≡◌, ℕ, ◌<◌, ◌≤◌, ◌↔◌, Option, List, length};
+ghost use Rattle.std.specs.Prelude.{ℕ, ◌<◌, Option, List, length};
 ghost use Rattle.std.specs.Io.{ReadsAtMost};
 ghost use Rattle.std.specs.Io.KnownBytes.{ReadConsumes, WriteAppends};
 ghost use Rattle.ports.specs.Devices.{HasCause, EndsRightly, TakesSome};

@@ -1,8 +1,9 @@
 //! The lines of a source, one at a time.
-ghost use Rattle.std.specs.Prelude.{◌≡◌, ℕ, ◌+◌, ◌-◌, ◌<◌, ◌≤◌, List, [], length, take, drop, true, false, IfOk, IsTrue};
+ghost use Rattle.std.specs.Prelude.{◌≡◌, ◌+◌, ◌-◌, ◌<◌, ◌≤◌, [], length, take, drop, true, false, IfOk};
 ghost use Rattle.std.specs.Io.{StartsWith};
 ghost use Rattle.std.specs.Io.KnownBytes.{Consumes};
 ghost use Rattle.ports.specs.LineFeed.{IsFed, bytes_ahead, in_hand, given_by, decided_by};
+ghost use Rattle.ports.specs.NextLine.{IsOfBytes};
 
 use super::devices::Source;
 use super::seeking::{Finding, seek};
@@ -45,7 +46,7 @@ pub struct LineFeed {
 }
 
 impl Model for LineFeed {
-    ghost use Rattle.std.specs.Prelude.{◌≡◌, ◌+◌, ◌-◌, ◌<◌, ◌≤◌, length, take, drop, true, false, ◌⊎◌};
+    ghost use Rattle.std.specs.Prelude.{◌≡◌, ◌+◌, ◌-◌, ◌<◌, ◌≤◌, length, take, drop, true, false};
     ghost use Rattle.ports.specs.Feeds.{Feed};
 
     ghost Value = { Feed };
@@ -94,6 +95,9 @@ impl LineFeed {
         ensures bytes { Consumes (bytes_ahead self.old (S.left source.old)) (bytes_ahead self.new (S.left source.new)) (given_by self.new result) }
         ensures keeps { StartsWith (in_hand self.new result) self.old.held }
         ensures passed { self.new.passed ≡ self.old.passed + length (given_by self.new result) }
+
+        // Over told bytes the answer and the line are those of the bytes alone, however the source cuts them.
+        ensures told { IsOfBytes limit self.old (S.left source.old) self.new result }
 
         // Few bytes are taken beyond the one that decided, and none beyond the last one that matters.
         ensures ahead { self.new.passed + length self.new.held < decided_by limit self.new result + 4096 }

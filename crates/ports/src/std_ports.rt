@@ -1,5 +1,5 @@
 //! The edge to std's readers and writers. What they give and take is not told.
-ghost use Rattle.std.specs.Prelude.{◌≡◌, ℕ, ◌<◌, None, length, OnOk, OnErr};
+ghost use Rattle.std.specs.Prelude.{◌≡◌, ◌<◌, None, length, OnOk, OnErr};
 ghost use Rattle.std.specs.Io.{ReadsAtMost};
 ghost use Rattle.std.specs.Io.KnownBytes.{ReadConsumes, WriteAppends};
 ghost use Rattle.ports.specs.Devices.{HasCause, EndsRightly, TakesSome};
