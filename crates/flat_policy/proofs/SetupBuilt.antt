@@ -1,5 +1,5 @@
 -- The fields of a setup that is built from rows.
-use Rattle.std.proofs.Common.{List, ap, length, map, refl, subst, sum_by, sym, take, ℕ, ◌<◌, ◌∙◌, ◌≡◌}
+use Rattle.std.proofs.Common.{List, ap, length, map, refl, subst, sum_by, sym, take, ℕ, ◌∙◌, ◌≡◌}
 use Rattle.std.proofs.lemmas.List.{length-map}
 use Rattle.std.proofs.lemmas.Simd.{map-map}
 use Rattle.flat_policy.proofs.SetupRows.{sum_cpus}

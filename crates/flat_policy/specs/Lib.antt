@@ -17,6 +17,7 @@ pub mod Aim
 pub mod Refresh
 pub mod ClusterSteps
 pub mod Machine
+pub mod WindowLaws
 pub mod Laws
 pub mod Rows
 pub mod Places
@@ -25,3 +26,4 @@ pub mod Interleaving
 pub mod Worker
 pub mod Texts
 pub mod Load
+pub mod Examples

@@ -1,5 +1,5 @@
 -- The load: a trace drawn from a seed, and the summary of its answers.
-use Rattle.std.specs.Prelude.{List, None, Option, Some, [], codes, decimal, false, if◌then◌else◌, is_none, is_some, length, map, nat_lt, replicate, slice_index_or, suc, sum_by, true, zero, ℕ, ◌%◌, ◌&&◌, ◌*◌, ◌++◌, ◌+◌, ◌-◌, ◌/◌, ◌==◌, ◌^◌, ◌||◌, ◌∷◌}
+use Rattle.std.specs.Prelude.{List, None, Option, Some, [], codes, decimal, false, if◌then◌else◌, is_none, is_some, length, map, nat_lt, replicate, slice_index_or, suc, sum_by, true, zero, ℕ, ◌%◌, ◌&&◌, ◌*◌, ◌++◌, ◌+◌, ◌-◌, ◌/◌, ◌==◌, ◌^◌, ◌||◌, ◌∷◌, ◌≤◌}
 use Rattle.sched_base.specs.declared.Act.{Act}
 use Rattle.sched_base.specs.declared.Answer.{Answer}
 use Rattle.sched_base.specs.declared.Bucket.{Bucket}
@@ -8,8 +8,6 @@ use Rattle.sched_base.specs.declared.Facts.{Facts}
 use Rattle.sched_base.specs.declared.Step.{Step}
 use Rattle.flat_policy.specs.declared.setup.Times.{Times}
 use Rattle.flat_policy.specs.Machine.{Game, empty_game, hand_at, live_count, reply, state_after}
-use Rattle.flat_policy.specs.Moves.{selected}
-use Rattle.flat_policy.specs.Offer.{offered}
 use Rattle.flat_policy.specs.Queue.{Flat}
 use Rattle.flat_policy.specs.Setup.{SetupParts, all_buckets, home_of, times_of_version_one}
 use Rattle.flat_policy.specs.Texts.Lines.{newline}
@@ -23,13 +21,13 @@ version_one_times = map times_of_version_one all_buckets
 -- the setup of the load: four processors and two slower ones, eight groups, 256 threads
 abbrev pub load_setup : SetupParts
 load_setup = record {
-    clusters = record { cpus = 4; rate = 1000 } ∷ record { cpus = 2; rate = 400 } ∷ [];
-    edges = record { from = 0; to = 1; weight = 8000; migrate = true; steal = 48 }
-        ∷ record { from = 1; to = 0; weight = 4000; migrate = true; steal = 63 } ∷ [];
-    groups = replicate 8 (0 ∷ 0 ∷ 0 ∷ 0 ∷ 1 ∷ 1 ∷ []);
-    threads = 256;
-    times = version_one_times ∷ version_one_times ∷ [];
-    version = 1
+  clusters = record { cpus = 4; rate = 1000 } ∷ record { cpus = 2; rate = 400 } ∷ [];
+  edges = record { from = 0; to = 1; weight = 8000; migrate = true; steal = 48 }
+      ∷ record { from = 1; to = 0; weight = 4000; migrate = true; steal = 63 } ∷ [];
+  groups = replicate 8 (0 ∷ 0 ∷ 0 ∷ 0 ∷ 1 ∷ 1 ∷ []);
+  threads = 256;
+  times = version_one_times ∷ version_one_times ∷ [];
+  version = 1;
 }
 
 -- the state that a draw makes of the one before, and the number that it gives
@@ -130,17 +128,17 @@ kept_after kept act thread = kept
 -- the load after its step number i
 abbrev pub load_taken : LoadState → ℕ → Step → LoadState
 load_taken st x step = record {
-    draw = x;
-    game = state_after load_setup st.game step;
-    kept = kept_after st.kept step.act (hand_at st.game step.actor).thread;
-    tally = tallied st.tally step.act (reply load_setup st.game step).answer
+  draw = x;
+  game = state_after load_setup st.game step;
+  kept = kept_after st.kept step.act (hand_at st.game step.actor).thread;
+  tally = tallied st.tally step.act (reply load_setup st.game step).answer;
 }
 
 abbrev pub load_step_by : LoadState → ℕ → ℕ → ℕ → LoadState
 load_step_by st i x r = load_taken st x (record {
-    moment = i * 50;
-    actor = r % 6;
-    act = load_act st i (r % 6) (r / 6) (hand_at st.game (r % 6)).thread
+  moment = i * 50;
+  actor = r % 6;
+  act = load_act st i (r % 6) (r / 6) (hand_at st.game (r % 6)).thread;
 })
 
 abbrev pub load_step : LoadState → ℕ → LoadState
@@ -179,3 +177,8 @@ summary seed n st =
 -- the load's text
 abbrev pub Load : ℕ → ℕ → List ℕ
 Load seed n = summary seed n (load_after seed n)
+
+-- the makes less the ends and the queued threads are those in hands or asleep: at most seven
+abbrev pub LivesSomewhere : LoadState → Type 0
+LivesSomewhere st =
+    (st.tally.ends + queued_count st.game ≤ st.tally.makes) × (st.tally.makes ≤ st.tally.ends + queued_count st.game + 7)

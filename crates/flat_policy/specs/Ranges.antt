@@ -115,21 +115,21 @@ times_of_rows rows i = record { wcel = nth (row_of_times rows 0) i; warp = nth (
 -- the setup of version 1 that such numbers make
 abbrev pub parts_of : List (List ℕ) → List (List ℕ) → List (List ℕ) → ℕ → SetupParts
 parts_of clusters edges groups threads = record {
-    clusters = map cluster_of_row clusters;
-    edges = map edge_of_row edges;
-    groups = groups;
-    threads = threads;
-    times = map (λ _. map times_of_version_one all_buckets) clusters;
-    version = 1
+  clusters = map cluster_of_row clusters;
+  edges = map edge_of_row edges;
+  groups = groups;
+  threads = threads;
+  times = map (λ _. map times_of_version_one all_buckets) clusters;
+  version = 1;
 }
 
 -- the setup of version 2 that they make with times
 abbrev pub parts_of_timed : List (List ℕ) → List (List ℕ) → List (List ℕ) → ℕ → List (List (List ℕ)) → SetupParts
 parts_of_timed clusters edges groups threads times = record {
-    clusters = map cluster_of_row clusters;
-    edges = map edge_of_row edges;
-    groups = groups;
-    threads = threads;
-    times = map (λ rows. map (times_of_rows rows) (numbers_below 6)) times;
-    version = 2
+  clusters = map cluster_of_row clusters;
+  edges = map edge_of_row edges;
+  groups = groups;
+  threads = threads;
+  times = map (λ rows. map (times_of_rows rows) (numbers_below 6)) times;
+  version = 2;
 }

@@ -1,4 +1,5 @@
 -- The worker rule: which lines an actor's turn appends to its log.
+use Rattle.std.specs.Bool.{MatchBool}
 use Rattle.std.specs.List.{list_any}
 use Rattle.std.specs.Prelude.{Bool, List, None, Option, Some, [], false, filter, find, if◌then◌else◌, map, min, nat_lt, not, option_and_then, suc, true, zero, ℕ, ◌&&◌, ◌*◌, ◌++◌, ◌+◌, ◌-◌, ◌/◌, ◌==◌, ◌^◌, ◌||◌, ◌∷◌, ◌≡◌, ◌⊎◌}
 use Rattle.sched_base.specs.declared.Act.{Act}
@@ -7,7 +8,6 @@ use Rattle.sched_base.specs.declared.Bucket.{Bucket}
 use Rattle.sched_base.specs.declared.Facts.{Facts}
 use Rattle.flat_policy.specs.declared.journal.Line.{Line}
 use Rattle.flat_policy.specs.Aim.{needed}
-use Rattle.flat_policy.specs.ClusterSteps.{got}
 use Rattle.flat_policy.specs.Interleaving.{EachLine}
 use Rattle.flat_policy.specs.Own.{Own}
 use Rattle.flat_policy.specs.Places.{act_of, moment_of}
@@ -99,15 +99,16 @@ Rests (Some span) (l ∷ []) = Does acts.Sleep l × (l.mark ≡ Some span)
 Rests sleep (l ∷ m ∷ ls) = ⊥
 
 -- after a run: a placing where work is left in the stage, otherwise the end or a sleep
-abbrev pub AfterRun : SetupParts → Stage → Facts → List Line → Type 0
-AfterRun setup s t ls = (nat_lt t.work s.target ≡ true → Places setup t ls) × (nat_lt t.work s.target ≡ false → Rests s.sleep ls)
+abbrev pub AfterRun : SetupParts → Stage → List Line → Option Facts → Type 0
+AfterRun setup s ls None = ⊥
+AfterRun setup s ls (Some t) = MatchBool (nat_lt t.work s.target) (Places setup t ls) (Rests s.sleep ls)
 
 -- the run of a thread in a stage, from a clock: one ran of the charge at its moment, and what follows
 abbrev pub RunsStage : SetupParts → ℕ → Facts → ℕ → Stage → List Line → Type 0
 RunsStage setup c t clock s [] = ⊥
 RunsStage setup c t clock s (l ∷ ls) =
     Does (acts.Ran (charge_of setup c t s)) l × (moment_of l ≡ run_moment clock (charge_of setup c t s))
-    × (after : Facts) × (l.entry.thread ≡ Some after) × AfterRun setup s after ls
+    × AfterRun setup s ls l.entry.thread
 
 -- the run of a thread that a line at a clock took
 abbrev pub RunsIn : SetupParts → ℕ → Facts → ℕ → Option Stage → List Line → Type 0
@@ -120,10 +121,15 @@ stage_of ps t = option_and_then (λ (p : Program). stage_at p t.work) (program_o
 abbrev pub Runs : RunParts → ℕ → Facts → ℕ → List Line → Type 0
 Runs run c t clock ls = RunsIn run.setup c t clock (stage_of run.programs t) ls
 
+-- the placing of a thread that a line took
+abbrev pub PlacesThread : SetupParts → List Line → Option Facts → Type 0
+PlacesThread setup ls None = ⊥
+PlacesThread setup ls (Some t) = Places setup t ls
+
 -- the ending of a turn that got no thread: a wake and a placing, or that none is blocked
 abbrev pub WakesAndPlaces : SetupParts → List Line → Type 0
 WakesAndPlaces setup [] = ⊥
-WakesAndPlaces setup (l ∷ ls) = (name : ℕ) × Does (acts.Wake name) l × (t : Facts) × (l.entry.thread ≡ Some t) × Places setup t ls
+WakesAndPlaces setup (l ∷ ls) = (name : ℕ) × Does (acts.Wake name) l × PlacesThread setup ls l.entry.thread
 
 abbrev pub IsIdleEnd : List Line → Type 0
 IsIdleEnd ls = (l : Line) × (ls ≡ l ∷ []) × Answered acts.Blocked (answers.Left 0) l
@@ -136,27 +142,32 @@ abbrev pub neighbours : SetupParts → ℕ → List ℕ
 neighbours setup c =
     filter (λ j. not (j == c) && (migrates setup j c || not (steal_mask setup j c == 0))) (numbers_below (cluster_count setup))
 
+-- the run of the thread that a line took, if it took one; otherwise something else
+abbrev pub RunsOr : RunParts → ℕ → Line → List Line → Type 0 → Option Facts → Type 0
+RunsOr run c l ls Otherwise None = Otherwise
+RunsOr run c l ls Otherwise (Some t) = Runs run c t (moment_of l) ls
+
 -- the offers of neighbours in ascending order, up to the first that got a thread, which is run; where none did, the ending
 abbrev pub Offers : RunParts → ℕ → List ℕ → List Line → Type 0
 Offers run c [] ls = EndsWithout run.setup ls
 Offers run c (j ∷ js) [] = ⊥
-Offers run c (j ∷ js) (l ∷ ls) =
-    Does (acts.Offer j) l
-    × ((t : Facts) → l.entry.thread ≡ Some t → Runs run c t (moment_of l) ls)
-    × (l.entry.thread ≡ None → Offers run c js ls)
+Offers run c (j ∷ js) (l ∷ ls) = Does (acts.Offer j) l × RunsOr run c l ls (Offers run c js ls) l.entry.thread
 
--- what follows a select: the run of its thread; the offers where the queue was empty; no offer where the home is off
-pub record AfterSelect (run : RunParts) (c : ℕ) (l : Line) (ls : List Line) : Type 0 where
-  pub selects : Does acts.Select l
-  pub got : (t : Facts) → l.entry.thread ≡ Some t → Runs run c t (moment_of l) ls
-  pub empty : l.entry.answer ≡ answers.Empty → Offers run c (neighbours run.setup c) ls
-  pub off : l.entry.answer ≡ answers.Off → EndsWithout run.setup ls
+-- what follows a select that got no thread: the offers where the queue was empty; no offer where the home is off
+abbrev pub AfterNone : RunParts → ℕ → List Line → Answer → Type 0
+AfterNone run c ls answers.Empty = Offers run c (neighbours run.setup c) ls
+AfterNone run c ls answers.Off = EndsWithout run.setup ls
+AfterNone run c ls _ = ⊥
+
+-- a select and what follows: the run of its thread where it got one
+abbrev pub SelectsAndGoesOn : RunParts → ℕ → Line → List Line → Type 0
+SelectsAndGoesOn run c l ls = Does acts.Select l × RunsOr run c l ls (AfterNone run c ls l.entry.answer) l.entry.thread
 
 -- the numbered steps of a turn: a wake and a placing; or that no thread is due, a select, and what follows
 abbrev pub SelectsAfterAsking : RunParts → ℕ → List Line → Type 0
 SelectsAfterAsking run c [] = ⊥
 SelectsAfterAsking run c (l ∷ []) = ⊥
-SelectsAfterAsking run c (l ∷ m ∷ ls) = Does acts.Blocked l × AfterSelect run c m ls
+SelectsAfterAsking run c (l ∷ m ∷ ls) = Does acts.Blocked l × SelectsAndGoesOn run c m ls
 
 abbrev pub TurnSteps : RunParts → ℕ → List Line → Type 0
 TurnSteps run c ls = WakesAndPlaces run.setup ls ⊎ SelectsAfterAsking run c ls
@@ -209,7 +220,7 @@ Opens run p [] = ⊥
 Opens run p (l ∷ ls) =
     Does (acts.Make p.name p.group p.bucket p.base p.bound) l
     × EachLine (λ (m : Line). moment_of m ≡ 0) (l ∷ ls)
-    × (t : Facts) × (l.entry.thread ≡ Some t) × Places run.setup t ls
+    × PlacesThread run.setup ls l.entry.thread
 
 -- the opening of all programs in order
 abbrev pub Opening : RunParts → List Program → List Line → Type 0

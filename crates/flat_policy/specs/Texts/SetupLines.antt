@@ -1,7 +1,7 @@
 -- The setup line: one JSON object.
 use Rattle.std.specs.List.{join_with_byte, list_any}
 use Rattle.std.specs.Prelude.{Bool, Err, List, None, Ok, Option, Result, Some, [], codes, decimal, false, if◌then◌else◌, length, map, option_and_then, true, ℕ, ◌&&◌, ◌++◌, ◌==◌, ◌∷◌}
-use Rattle.std.specs.Str.Lossy.{utf8_valid_len}
+use Rattle.std.specs.Str.{is_utf8}
 use Rattle.flat_policy.specs.declared.setup.EdgeSpec.{EdgeSpec}
 use Rattle.flat_policy.specs.declared.setup.Field.{Field}
 use Rattle.flat_policy.specs.declared.setup.Times.{Times}
@@ -17,7 +17,7 @@ use Rattle.flat_policy.specs.declared.setup.Field.TheVariants as fields
 
 -- a line as a JSON value, as `serde_json` reads it; bytes that are no text have no reading
 abbrev pub json_of : List ℕ → Option Data
-json_of line = if utf8_valid_len line == length line then read line else None
+json_of line = if is_utf8 line then read line else None
 
 -- a whole number of 64 bits
 abbrev pub whole_number : Data → Option ℕ
