@@ -1,0 +1,3 @@
+//! Worked examples of the calls.
+
+use super::*;
