@@ -1,6 +1,6 @@
 //! Which lanes are filled, and their deadlines.
 
-ghost use Rattle.std.specs.Prelude.{◌≡◌, ◌≢◌, ◌↔◌, IfSome, IsNone, List, [], false, map, option_map, replicate, slice_index, slice_index_or, slice_set, true};
+ghost use Rattle.std.specs.Prelude.{◌≡◌, ◌≢◌, ◌↔◌, IfSome, IsNone, IsTrue, List, [], false, map, option_map, replicate, slice_index, slice_index_or, slice_set, true};
 ghost use Rattle.std.specs.Option.{ForSome};
 ghost use Rattle.flat_policy.specs.Queue.{LaneWindow, timeshare_lanes};
 ghost use Rattle.flat_policy.specs.Windows.{earliest_of, stands_higher};
@@ -113,6 +113,13 @@ impl Lanes {
         ensures { result ≡ slice_index_or self.now.filled (place_of lane) false }
     {
         (self.filled >> place(lane)) & 1 == 1
+    }
+
+    /// Whether no lane is filled.
+    pub fn is_empty(&self) -> bool
+        ensures { IsTrue result ↔ (filled_among self.now.filled timeshare_lanes ≡ []) }
+    {
+        self.earliest().is_none()
     }
 
     /// The sooner of the lane found so far and one more, where that is filled.

@@ -14,12 +14,13 @@ fn lane(bucket: Bucket, bound: bool) -> Lane
 #[test]
 fn the_first_by_deadline_then_bucket_then_bound(rt: HostRuntime) {
     let mut lanes = Lanes::new();
-    assert!(rt; lanes.earliest().is_none());
+    assert!(rt; lanes.is_empty() && lanes.earliest().is_none());
 
     // at one deadline the bound lane of a bucket is first
     lanes.fill(lane(Bucket::Ut, false), 150_000);
     lanes.fill(lane(Bucket::Ut, true), 150_000);
     assert_eq!(rt; lanes.earliest(), Some(lane(Bucket::Ut, true)));
+    assert!(rt; !lanes.is_empty());
 
     // a higher bucket at the same deadline, and then a lower one at an earlier deadline
     lanes.fill(lane(Bucket::Df, false), 150_000);

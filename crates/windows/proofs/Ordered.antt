@@ -51,6 +51,10 @@ none_filled fs ws h = none_of (filled_among fs ws) (sym (among_map (λ (w : Lane
     none_of [] e = refl
     none_of (u ∷ us) e = absurd cc
 
+-- no window is filled where no lane is
+pub none_of_lanes : (fs : List Bool) (ws : List LaneWindow) → filled_among fs ws ≡ [] → filled_among fs (lanes_of ws) ≡ []
+none_of_lanes fs ws h = among_map (λ (w : LaneWindow). w.lane) fs ws ∙ ap lanes_of h
+
 all_filtered : (test : Lane → Bool) (p : LaneWindow → Bool) (ws : List LaneWindow) → list_all test (lanes_of ws) ≡ true → list_all test (lanes_of (filter p ws)) ≡ true
 all_filtered test p [] h = refl
 all_filtered test p (w ∷ ws) h =

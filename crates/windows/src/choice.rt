@@ -1,6 +1,6 @@
 //! The windows of the ten lanes, and the lane that they choose.
 
-ghost use Rattle.std.specs.Prelude.{◌≡◌, ◌≢◌, ◌<◌, ◌^◌, List, [], Some, false, filter, fold, map, replicate, slice_index_or, true};
+ghost use Rattle.std.specs.Prelude.{◌≡◌, ◌≢◌, ◌<◌, ◌^◌, ◌↔◌, IsTrue, List, [], Some, false, filter, fold, map, replicate, slice_index_or, true};
 ghost use Rattle.flat_policy.specs.Queue.{LaneWindow, new_window, timeshare_lanes};
 ghost use Rattle.flat_policy.specs.Setup.{times_for};
 ghost use Rattle.flat_policy.specs.Windows.{at_lane, chosen_of, expired_window, renewed_deadline, window_after};
@@ -172,6 +172,13 @@ impl Windows {
     {
         let expired = self.window(lane).expired(self.times(lane), now);
         self.put(lane, expired);
+    }
+
+    /// Whether no lane is filled.
+    pub fn is_empty(&self) -> bool
+        ensures { IsTrue result ↔ (filled_of self.now ≡ []) }
+    {
+        self.lanes.is_empty()
     }
 
     /// Chooses a lane by deadlines, and how it came to be chosen; the windows of that lane change
