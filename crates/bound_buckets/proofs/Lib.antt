@@ -1,0 +1,2 @@
+pub mod LanePriorities
+pub mod Above

@@ -1,0 +1,105 @@
+-- The flags of a bitmap: what is read at a lane's place, and after the bit of a lane is set or cleared.
+use Rattle.std.proofs.Common.{◌≡◌, ℕ, ◌<◌, ◌-◌, ◌*◌, ◌^◌, ◌%◌, ◌/◌, ◌==◌, Bool, true, false, cond, map, refl, sym, ap, ◌∙◌, arith, inl, inr, eq-eqb, ne_eqb}
+use Rattle.std.specs.Prelude.{bit_and, bit_or, slice_index_or, slice_set}
+use Rattle.std.specs.Int.{w16}
+use Rattle.std.proofs.lemmas.Bool.{cases_eq}
+use Rattle.std.proofs.lemmas.Nat.Bits.{bit_at_clear_other, bit_at_clear_same, bit_at_set_other, bit_at_set_same, shr_and_one}
+use Rattle.sched_base.specs.declared.buckets.Bucket.{Bucket}
+use Rattle.sched_base.specs.declared.buckets.Bucket.TheVariants.{Bg, Df, Fg, Ini, Ui, Ut}
+use Rattle.flat_policy.specs.Queue.{lane}
+use Rattle.root_deadlines.specs.Bits.{flag_at, flags_of, places}
+use Rattle.root_deadlines.specs.Places.{place_of}
+
+-- a number with one bit set, and with one bit cleared, as the code computes them
+abbrev pub with_bit : ℕ → ℕ → ℕ
+with_bit n k = bit_or n (1 * 2 ^ k % 65536)
+
+abbrev pub without_bit : ℕ → ℕ → ℕ
+without_bit n k = bit_and n (65535 - (1 * 2 ^ k % 65536))
+
+-- functions that agree below 16 give one list of places below 16
+all_places : (f g : ℕ → Bool) → ((j : ℕ) → j < 16 → f j ≡ g j) → map f places ≡ map g places
+all_places f g h =
+    rw (
+      h 0 (omega arith),
+      h 1 (omega arith),
+      h 2 (omega arith),
+      h 3 (omega arith),
+      h 4 (omega arith),
+      h 5 (omega arith),
+      h 6 (omega arith),
+      h 7 (omega arith),
+      h 8 (omega arith),
+      h 9 (omega arith),
+    ) refl
+
+set_flag : (n k : ℕ) → k < 16 → (j : ℕ) → j < 16 → flag_at (with_bit n k) j ≡ cond (j == k) true (flag_at n j)
+set_flag n k within j below =
+    elim (cases_eq j k) [
+      | inl same ↦ ap (λ i. flag_at (with_bit n k) i) same ∙ ap (λ b. b == 1) (bit_at_set_same w16 n k within)
+          ∙ sym (ap (λ b. cond b true (flag_at n j)) (eq-eqb j k same))
+      | inr other ↦ ap (λ b. b == 1) (bit_at_set_other w16 n k within j other)
+          ∙ sym (ap (λ b. cond b true (flag_at n j)) (ne_eqb j k other))
+    ]
+
+clear_flag : (n k : ℕ) → k < 16 → (j : ℕ) → j < 16 → flag_at (without_bit n k) j ≡ cond (j == k) false (flag_at n j)
+clear_flag n k within j below =
+    elim (cases_eq j k) [
+      | inl same ↦ ap (λ i. flag_at (without_bit n k) i) same ∙ ap (λ b. b == 1) (bit_at_clear_same w16 n k within)
+          ∙ sym (ap (λ b. cond b false (flag_at n j)) (eq-eqb j k same))
+      | inr other ↦ ap (λ b. b == 1) (bit_at_clear_other w16 n k within j below other)
+          ∙ sym (ap (λ b. cond b false (flag_at n j)) (ne_eqb j k other))
+    ]
+
+-- one place of ten
+set_all : (n k : ℕ) → k < 16 → flags_of (with_bit n k) ≡ map (λ j. cond (j == k) true (flag_at n j)) places
+set_all n k within = all_places _ _ (set_flag n k within)
+
+clear_all : (n k : ℕ) → k < 16 → flags_of (without_bit n k) ≡ map (λ j. cond (j == k) false (flag_at n j)) places
+clear_all n k within = all_places _ _ (clear_flag n k within)
+
+pub set_is : (n : ℕ) (b : Bucket) (bound : Bool) → (b ≡ Ui → ⊥)
+    → flags_of (with_bit n (place_of (lane b bound))) ≡ slice_set (flags_of n) (place_of (lane b bound)) true
+set_is n Ui bound other = absurd (other refl)
+set_is n Fg true other = set_all n 0 (omega arith)
+set_is n Fg false other = set_all n 1 (omega arith)
+set_is n Ini true other = set_all n 2 (omega arith)
+set_is n Ini false other = set_all n 3 (omega arith)
+set_is n Df true other = set_all n 4 (omega arith)
+set_is n Df false other = set_all n 5 (omega arith)
+set_is n Ut true other = set_all n 6 (omega arith)
+set_is n Ut false other = set_all n 7 (omega arith)
+set_is n Bg true other = set_all n 8 (omega arith)
+set_is n Bg false other = set_all n 9 (omega arith)
+
+pub clear_is : (n : ℕ) (b : Bucket) (bound : Bool) → (b ≡ Ui → ⊥)
+    → flags_of (without_bit n (place_of (lane b bound))) ≡ slice_set (flags_of n) (place_of (lane b bound)) false
+clear_is n Ui bound other = absurd (other refl)
+clear_is n Fg true other = clear_all n 0 (omega arith)
+clear_is n Fg false other = clear_all n 1 (omega arith)
+clear_is n Ini true other = clear_all n 2 (omega arith)
+clear_is n Ini false other = clear_all n 3 (omega arith)
+clear_is n Df true other = clear_all n 4 (omega arith)
+clear_is n Df false other = clear_all n 5 (omega arith)
+clear_is n Ut true other = clear_all n 6 (omega arith)
+clear_is n Ut false other = clear_all n 7 (omega arith)
+clear_is n Bg true other = clear_all n 8 (omega arith)
+clear_is n Bg false other = clear_all n 9 (omega arith)
+
+flag_is : (n : ℕ) (b : Bucket) (bound : Bool) → slice_index_or (flags_of n) (place_of (lane b bound)) false ≡ flag_at n (place_of (lane b bound))
+flag_is n Ui true = refl
+flag_is n Ui false = refl
+flag_is n Fg true = refl
+flag_is n Fg false = refl
+flag_is n Ini true = refl
+flag_is n Ini false = refl
+flag_is n Df true = refl
+flag_is n Df false = refl
+flag_is n Ut true = refl
+flag_is n Ut false = refl
+flag_is n Bg true = refl
+flag_is n Bg false = refl
+
+pub read_is : (n : ℕ) (b : Bucket) (bound : Bool) (p : ℕ) → p ≡ place_of (lane b bound)
+    → (bit_and (n / 2 ^ p) 1 == 1) ≡ slice_index_or (flags_of n) (place_of (lane b bound)) false
+read_is n b bound p at = ap (λ v. v == 1) (shr_and_one n p) ∙ ap (λ k. flag_at n k) at ∙ sym (flag_is n b bound)

@@ -1,0 +1,5 @@
+pub mod Flags
+pub mod Tens
+pub mod Ranks
+pub mod Least
+pub mod Earliest

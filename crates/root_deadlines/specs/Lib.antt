@@ -1,0 +1,4 @@
+pub mod Places
+pub mod Bits
+pub mod Lanes
+pub mod Sooner

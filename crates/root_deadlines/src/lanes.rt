@@ -1,0 +1,162 @@
+//! Which lanes are filled, and their deadlines.
+
+ghost use Rattle.std.specs.Prelude.{◌≡◌, ◌≢◌, ◌↔◌, IfSome, IsNone, IsTrue, List, [], false, map, option_map, replicate, slice_index, slice_index_or, slice_set, true};
+ghost use Rattle.std.specs.Option.{ForSome};
+ghost use Rattle.flat_policy.specs.Queue.{LaneWindow, timeshare_lanes};
+ghost use Rattle.flat_policy.specs.Windows.{earliest_of, stands_higher};
+ghost use Rattle.root_deadlines.specs.Lanes.{AreWindowsOf, LaneTable, filled_among};
+ghost use Rattle.root_deadlines.specs.Places.{place_of};
+ghost use Rattle.root_deadlines.specs.Sooner.{due_sooner, sooner_with};
+
+use crate::places::place;
+use bucket_tables::{Lane, each_lane};
+use sched_base::Bucket;
+use std::marker::Model;
+
+/// The ten timeshare lanes: which of them are filled, as a bitmap, and the deadline of each.
+/// Contracts see the flags and the deadlines by place.
+#[derive(Drop)]
+pub struct Lanes {
+    filled: u16,
+    deadlines: [u64; 10],
+}
+
+impl Model for Lanes {
+    ghost use Rattle.root_deadlines.specs.Lanes.{LaneTable};
+    ghost use Rattle.root_deadlines.specs.Bits.{flags_of};
+
+    ghost Value = { LaneTable };
+
+    ghost view = { λ lanes. record { filled = flags_of lanes.filled; deadlines = lanes.deadlines } };
+}
+
+/// A filled lane and its deadline.
+#[derive(Clone, Copy, Drop)]
+struct Due {
+    lane: Lane,
+    deadline: u64,
+}
+
+impl Due {
+    /// Whether it is due before another: by deadline, then bucket index, then bound first.
+    fn is_sooner(self, other: Due) -> bool
+        ensures { result ≡ due_sooner self other }
+    {
+        self.deadline < other.deadline
+            || (self.deadline == other.deadline && is_higher(self.lane, other.lane))
+    }
+}
+
+/// Whether a lane stands higher than another: by bucket index, and in one bucket the bound one.
+fn is_higher(lane: Lane, other: Lane) -> bool
+    ensures { result ≡ stands_higher lane other }
+{
+    let (own, others) = (lane.bucket.index(), other.bucket.index());
+    own < others || (own == others && lane.bound && !other.bound)
+}
+
+impl Lanes {
+    /// No lane is filled, and every deadline is 0.
+    pub fn new() -> Lanes
+        ensures { result ≡ record { filled = replicate 10 false; deadlines = replicate 10 0 } }
+    {
+        Lanes {
+            filled: 0,
+            deadlines: [0; 10],
+        }
+    }
+
+    /// The lane is filled and gets the deadline, in microseconds. The other lanes stay.
+    pub fn fill(&mut self, lane: Lane, deadline: u64)
+        requires { lane.bucket ≢ Bucket.Ui }
+        ensures { self.new ≡ record {
+          filled = slice_set self.old.filled (place_of lane) true;
+          deadlines = slice_set self.old.deadlines (place_of lane) deadline;
+        } }
+    {
+        let place = place(lane);
+        self.filled |= 1 << place;
+        self.deadlines[place] = deadline;
+    }
+
+    /// The lane is empty; its deadline stays, and so do the other lanes.
+    pub fn clear(&mut self, lane: Lane)
+        requires { lane.bucket ≢ Bucket.Ui }
+        ensures { self.new ≡ record self.old {
+          filled = slice_set self.old.filled (place_of lane) false;
+        } }
+    {
+        self.filled &= !(1 << place(lane));
+    }
+
+    /// The lane gets a deadline, in microseconds. Which lanes are filled stays.
+    pub fn renew(&mut self, lane: Lane, deadline: u64)
+        requires { lane.bucket ≢ Bucket.Ui }
+        ensures { self.new ≡ record self.old {
+          deadlines = slice_set self.old.deadlines (place_of lane) deadline;
+        } }
+    {
+        self.deadlines[place(lane)] = deadline;
+    }
+
+    /// The deadline of a lane, in microseconds.
+    pub fn deadline(&self, lane: Lane) -> u64
+        requires { lane.bucket ≢ Bucket.Ui }
+        ensures { result ≡ slice_index self.now.deadlines (place_of lane) }
+    {
+        self.deadlines[place(lane)]
+    }
+
+    /// Whether a lane is filled.
+    pub fn filled(&self, lane: Lane) -> bool
+        requires { lane.bucket ≢ Bucket.Ui }
+        ensures { result ≡ slice_index_or self.now.filled (place_of lane) false }
+    {
+        (self.filled >> place(lane)) & 1 == 1
+    }
+
+    /// Whether no lane is filled.
+    pub fn is_empty(&self) -> bool
+        ensures { IsTrue result ↔ (filled_among self.now.filled timeshare_lanes ≡ []) }
+    {
+        self.earliest().is_none()
+    }
+
+    /// The sooner of the lane found so far and one more, where that is filled.
+    fn sooner(&self, first: Option<Due>, lane: Lane) -> Option<Due>
+        requires lane { lane.bucket ≢ Bucket.Ui }
+        requires found { ForSome first (λ due. due.lane.bucket ≢ Bucket.Ui) }
+        ensures lane { ForSome result (λ due. due.lane.bucket ≢ Bucket.Ui) }
+        ensures sooner { result ≡ sooner_with (slice_index_or self.now.filled (place_of lane) false) first
+            (record { lane = lane; deadline = slice_index self.now.deadlines (place_of lane) }) }
+    {
+        if !self.filled(lane) {
+            return first;
+        }
+        let due = Due {
+            lane,
+            deadline: self.deadline(lane),
+        };
+        match first {
+            Some(found) if !due.is_sooner(found) => first,
+            _ => Some(due),
+        }
+    }
+
+    /// The filled lane that is due first: by deadline, then bucket index, then bound first.
+    /// `None` exactly where no lane is filled.
+    pub fn earliest(&self) -> Option<Lane>
+        ensures none { IsNone result ↔ (filled_among self.now.filled timeshare_lanes ≡ []) }
+
+        ensures timeshare { IfSome result (λ e. e.bucket ≢ Bucket.Ui) }
+
+        // whatever the warps and starvation windows of the ten lanes are
+        ensures first { (windows : List LaneWindow) → AreWindowsOf self.now windows
+            → result ≡ option_map (λ (e : LaneWindow). e.lane) (earliest_of (filled_among self.now.filled windows)) }
+    {
+        let _ = &self.filled;
+        let mut first = None;
+        each_lane!(lane => first = self.sooner(first, lane));
+        first.map(|due| due.lane)
+    }
+}

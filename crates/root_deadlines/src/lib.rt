@@ -1,0 +1,14 @@
+//! The timeshare lanes: which of them are filled, and by when each is to be served.
+//!
+//! Deadlines are moments in whole microseconds. No call here takes memory or refuses.
+#![tactic(auto)]
+
+pub mod lanes;
+pub mod places;
+
+pub use bucket_tables::Lane;
+pub use lanes::Lanes;
+pub use places::place;
+
+#[cfg(test)]
+mod tests;

@@ -1,0 +1,67 @@
+-- What is read and written at the place of a lane is read and written at that lane.
+use Rattle.std.proofs.Common.{◌≡◌, ℕ, Bool, true, false, List, [], ◌∷◌, length, map, refl}
+use Rattle.std.specs.Prelude.{slice_index, slice_index_or, slice_set}
+use Rattle.sched_base.specs.declared.buckets.Bucket.{Bucket}
+use Rattle.sched_base.specs.declared.buckets.Bucket.TheVariants.{Bg, Df, Fg, Ini, Ui, Ut}
+use Rattle.bucket_tables.specs.declared.Lane.{Lane}
+use Rattle.flat_policy.specs.Queue.{LaneWindow, lane, new_window, timeshare_lanes}
+use Rattle.flat_policy.specs.Windows.{at_lane}
+use Rattle.root_deadlines.specs.Places.{place_of}
+use Rattle.root_deadlines.proofs.Tens.{by_ten}
+use Rattle.windows.specs.declared.choice.Marks.{Marks}
+use Rattle.windows.specs.Views.{windows_over}
+use Rattle.windows.proofs.Ordered.{lanes_of}
+
+-- a fact of two lists of ten
+pub by_tens : {X Y : Type 0} (P : List X → List Y → Type 0)
+    → ((a b c d e f g h i j : X) (k l m n o p q r s t : Y) → P (a ∷ b ∷ c ∷ d ∷ e ∷ f ∷ g ∷ h ∷ i ∷ j ∷ []) (k ∷ l ∷ m ∷ n ∷ o ∷ p ∷ q ∷ r ∷ s ∷ t ∷ []))
+    → (xs : List X) (ys : List Y) → length xs ≡ 10 → length ys ≡ 10 → P xs ys
+by_tens P all xs ys x y =
+    by_ten (λ us. P us ys) (λ a b c d e f g h i j. by_ten (λ vs. P (a ∷ b ∷ c ∷ d ∷ e ∷ f ∷ g ∷ h ∷ i ∷ j ∷ []) vs) (λ k l m n o p q r s t. all a b c d e f g h i j k l m n o p q r s t) ys y) xs x
+
+pub lanes_over : (ds : List ℕ) (ms : List Marks) → length ds ≡ 10 → length ms ≡ 10 → lanes_of (windows_over ds ms) ≡ timeshare_lanes
+lanes_over ds ms d m = by_tens (λ es ns. lanes_of (windows_over es ns) ≡ timeshare_lanes) (λ a b c d e f g h i j k l m n o p q r s t. refl) ds ms d m
+
+pub deadlines_over : (ds : List ℕ) (ms : List Marks) → length ds ≡ 10 → length ms ≡ 10 → map (λ (w : LaneWindow). w.deadline) (windows_over ds ms) ≡ ds
+deadlines_over ds ms d m =
+    by_tens (λ es ns. map (λ (w : LaneWindow). w.deadline) (windows_over es ns) ≡ es) (λ a b c d e f g h i j k l m n o p q r s t. refl) ds ms d m
+
+-- the windows read at a lane's place
+abbrev ReadsAt : Lane → Marks → Marks → List ℕ → List Marks → Type 0
+ReadsAt at mark default ds ms =
+    mark ≡ slice_index_or ms (place_of at) default
+    → slice_index_or (windows_over ds ms) (place_of at) (new_window at) ≡ record { lane = at; deadline = slice_index ds (place_of at); warp = mark.warp; starved = mark.starved }
+
+pub read_at : (b : Bucket) (bound : Bool) (mark default : Marks) (ds : List ℕ) (ms : List Marks) → (b ≡ Ui → ⊥) → length ds ≡ 10 → length ms ≡ 10
+    → ReadsAt (lane b bound) mark default ds ms
+read_at Ui bound mark default ds ms other x y = absurd (other refl)
+read_at Fg true mark default ds ms other x y = by_tens (ReadsAt (lane Fg true) mark default) (λ a b c d e f g h i j k l m n o p q r s t is. rw is refl) ds ms x y
+read_at Fg false mark default ds ms other x y = by_tens (ReadsAt (lane Fg false) mark default) (λ a b c d e f g h i j k l m n o p q r s t is. rw is refl) ds ms x y
+read_at Ini true mark default ds ms other x y = by_tens (ReadsAt (lane Ini true) mark default) (λ a b c d e f g h i j k l m n o p q r s t is. rw is refl) ds ms x y
+read_at Ini false mark default ds ms other x y = by_tens (ReadsAt (lane Ini false) mark default) (λ a b c d e f g h i j k l m n o p q r s t is. rw is refl) ds ms x y
+read_at Df true mark default ds ms other x y = by_tens (ReadsAt (lane Df true) mark default) (λ a b c d e f g h i j k l m n o p q r s t is. rw is refl) ds ms x y
+read_at Df false mark default ds ms other x y = by_tens (ReadsAt (lane Df false) mark default) (λ a b c d e f g h i j k l m n o p q r s t is. rw is refl) ds ms x y
+read_at Ut true mark default ds ms other x y = by_tens (ReadsAt (lane Ut true) mark default) (λ a b c d e f g h i j k l m n o p q r s t is. rw is refl) ds ms x y
+read_at Ut false mark default ds ms other x y = by_tens (ReadsAt (lane Ut false) mark default) (λ a b c d e f g h i j k l m n o p q r s t is. rw is refl) ds ms x y
+read_at Bg true mark default ds ms other x y = by_tens (ReadsAt (lane Bg true) mark default) (λ a b c d e f g h i j k l m n o p q r s t is. rw is refl) ds ms x y
+read_at Bg false mark default ds ms other x y = by_tens (ReadsAt (lane Bg false) mark default) (λ a b c d e f g h i j k l m n o p q r s t is. rw is refl) ds ms x y
+
+-- the windows written at a lane's place
+abbrev WritesAt : Lane → (LaneWindow → LaneWindow) → ℕ → Marks → List ℕ → List Marks → Type 0
+WritesAt at change deadline mark ds ms =
+    change (slice_index_or (windows_over ds ms) (place_of at) (new_window at)) ≡ record { lane = at; deadline = deadline; warp = mark.warp; starved = mark.starved }
+    → windows_over (slice_set ds (place_of at) deadline) (slice_set ms (place_of at) mark) ≡ at_lane at change (windows_over ds ms)
+
+pub write_at : (b : Bucket) (bound : Bool) (change : LaneWindow → LaneWindow) (deadline : ℕ) (mark : Marks) (ds : List ℕ) (ms : List Marks)
+    → (b ≡ Ui → ⊥) → length ds ≡ 10 → length ms ≡ 10 → WritesAt (lane b bound) change deadline mark ds ms
+write_at Ui bound change deadline mark ds ms other x y = absurd (other refl)
+write_at Fg true change deadline mark ds ms other x y = by_tens (WritesAt (lane Fg true) change deadline mark) (λ a b c d e f g h i j k l m n o p q r s t is. rw is refl) ds ms x y
+write_at Fg false change deadline mark ds ms other x y = by_tens (WritesAt (lane Fg false) change deadline mark) (λ a b c d e f g h i j k l m n o p q r s t is. rw is refl) ds ms x y
+write_at Ini true change deadline mark ds ms other x y = by_tens (WritesAt (lane Ini true) change deadline mark) (λ a b c d e f g h i j k l m n o p q r s t is. rw is refl) ds ms x y
+write_at Ini false change deadline mark ds ms other x y = by_tens (WritesAt (lane Ini false) change deadline mark) (λ a b c d e f g h i j k l m n o p q r s t is. rw is refl) ds ms x y
+write_at Df true change deadline mark ds ms other x y = by_tens (WritesAt (lane Df true) change deadline mark) (λ a b c d e f g h i j k l m n o p q r s t is. rw is refl) ds ms x y
+write_at Df false change deadline mark ds ms other x y = by_tens (WritesAt (lane Df false) change deadline mark) (λ a b c d e f g h i j k l m n o p q r s t is. rw is refl) ds ms x y
+write_at Ut true change deadline mark ds ms other x y = by_tens (WritesAt (lane Ut true) change deadline mark) (λ a b c d e f g h i j k l m n o p q r s t is. rw is refl) ds ms x y
+write_at Ut false change deadline mark ds ms other x y = by_tens (WritesAt (lane Ut false) change deadline mark) (λ a b c d e f g h i j k l m n o p q r s t is. rw is refl) ds ms x y
+write_at Bg true change deadline mark ds ms other x y = by_tens (WritesAt (lane Bg true) change deadline mark) (λ a b c d e f g h i j k l m n o p q r s t is. rw is refl) ds ms x y
+write_at Bg false change deadline mark ds ms other x y = by_tens (WritesAt (lane Bg false) change deadline mark) (λ a b c d e f g h i j k l m n o p q r s t is. rw is refl) ds ms x y

@@ -1,0 +1,5 @@
+use Rattle.windows.proofs.Following.{follows}
+use Rattle.windows.proofs.laws.filling_follows.Goals as goal
+
+pub returns : goal.returns
+returns c = follows

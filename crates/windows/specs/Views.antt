@@ -1,0 +1,23 @@
+-- How the fields of a `Windows` mean its lanes.
+use Rattle.std.specs.Prelude.{List, [], length, ℕ, ◌≡◌, ◌∷◌}
+use Rattle.bucket_tables.specs.declared.Lane.{Lane}
+use Rattle.flat_policy.specs.Queue.{LaneWindow, timeshare_lanes}
+use Rattle.root_deadlines.specs.Lanes.{LaneTable}
+use Rattle.windows.specs.declared.choice.Marks.{Marks}
+
+-- lanes, deadlines and marks, beside each other
+abbrev pub beside : List Lane → List ℕ → List Marks → List LaneWindow
+beside [] ds ms = []
+beside (l ∷ ls) [] ms = []
+beside (l ∷ ls) (d ∷ ds) [] = []
+beside (l ∷ ls) (d ∷ ds) (m ∷ ms) = record { lane = l; deadline = d; warp = m.warp; starved = m.starved } ∷ beside ls ds ms
+
+-- the ten lanes with these deadlines and marks
+abbrev pub windows_over : List ℕ → List Marks → List LaneWindow
+windows_over ds ms = beside timeshare_lanes ds ms
+
+-- flags, deadlines and marks speak of ten lanes
+pub record HasTen (t : LaneTable) (ms : List Marks) : Type 0 where
+  pub filled : length t.filled ≡ 10
+  pub deadlines : length t.deadlines ≡ 10
+  pub marks : length ms ≡ 10

@@ -1,0 +1,15 @@
+//! Laws of the flags. Each is the contract of a function that does nothing.
+
+ghost use Rattle.windows.specs.Flags.{ChoicesAgree, FillingFollows};
+
+/// Where the flags say which lanes of a queue have entries, the choice among the filled lanes is
+/// the queue's choice by deadlines.
+pub fn choices_agree()
+    ensures { ChoicesAgree }
+{}
+
+/// Where each flag is a test of its lane, the flags with one lane filled are the flags of the test
+/// that holds of that lane, too.
+pub fn filling_follows()
+    ensures { FillingFollows }
+{}
