@@ -1,1 +1,4 @@
+pub mod Readings
+pub mod Spans
 pub mod Splitting
+pub mod Naming

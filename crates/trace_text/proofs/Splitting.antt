@@ -1,5 +1,7 @@
 -- A line splits at its first space.
-use Rattle.std.proofs.Common.{[], arith, drop, get_or, length, List, refl, suc, take, zero, ℕ, ◌<◌, ◌≡◌, ◌≢◌, ◌∷◌, Err, inl, inr}
+use Rattle.std.proofs.Common.{[], arith, drop, get_or, length, List, refl, suc, take, zero, ℕ, ◌<◌, ◌↔◌, ◌≡◌, ◌≢◌, ◌∷◌, Bool, Bor, Err, IsTrue, None, Option, Some, false, inl, inr, not, true}
+use Rattle.std.specs.Option.{is_some}
+use Rattle.trace_text.specs.Reading.{left_of}
 use Rattle.std.proofs.Math.Dec.{eqb}
 use Rattle.std.proofs.lemmas.Bool.{cases_Bool, eq-eqb, ne_eqb}
 use Rattle.flat_policy.specs.declared.texts.LineFault.TheVariants as line_faults
@@ -14,8 +16,14 @@ first_piece (b ∷ bs) =
       | inr e ↦ let r = first_piece bs in (b ∷ r.0, r.1, rw (e, r.2) refl)
     ]
 
-pub not_at_end : (xs : List ℕ) → at_end {A = Unit {0}} tt (pieces xs) ≡ Err line_faults.Word
-not_at_end xs = let r = first_piece xs in rw r.2 refl
+pub not_at_end : {A : Type 0} (x : A) (xs : List ℕ) → at_end x (pieces xs) ≡ Err line_faults.Word
+not_at_end x xs = let r = first_piece xs in rw r.2 refl
+
+pub done_is : (rest : Option (Bor (List ℕ))) (done : Bool) → is_some rest ≡ not done → (IsTrue done) ↔ (left_of rest ≡ [])
+done_is None true e = (λ _. refl, λ _. refl)
+done_is None false e = absurd cc
+done_is (Some text) true e = absurd cc
+done_is (Some text) false e = (λ h. absurd cc, λ h. let r = first_piece text.now in let g : r.0 ∷ r.1 ≡ [] = rw (← r.2) h in absurd cc)
 
 pub pieces_split : (xs : List ℕ) (i : ℕ) → i < length xs → get_or xs i 0 ≡ 32 → ((k : ℕ) → k < i → get_or xs k 0 ≢ 32) → pieces xs ≡ take i xs ∷ pieces (drop (suc i) xs)
 pieces_split [] i lt here before = absurd (omega arith)

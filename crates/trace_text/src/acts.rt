@@ -7,7 +7,7 @@ ghost use Rattle.flat_policy.specs.Texts.Steps.{
 ghost use Rattle.trace_text.specs.Reading.{Gives, left};
 
 use crate::fields::{
-    actor_at, base_at, bound_at, bucket_at, cluster_at, end_at, group_at, moment_at, name_at,
+    actor_at, base_at, bound_at, bucket_at, cluster_at, end_at, group_at, moment_at, wide_at,
 };
 use crate::pieces::{Pieces, next};
 use flat_policy::texts::LineFault;
@@ -16,7 +16,7 @@ use sched_base::{Act, Step};
 fn make_at(pieces: Pieces<'_>) -> Result<(Act, Pieces<'_>), LineFault>
     ensures { Gives (λ x. (x.0, left x.1)) result (make_at (left pieces.entry)) }
 {
-    let (name, rest) = name_at(pieces)?;
+    let (name, rest) = wide_at(pieces)?;
     let (group, rest) = group_at(rest)?;
     let (bucket, rest) = bucket_at(rest)?;
     let (base, rest) = base_at(rest)?;
@@ -49,7 +49,7 @@ fn offer_at(pieces: Pieces<'_>) -> Result<(Act, Pieces<'_>), LineFault>
 fn pull_at(pieces: Pieces<'_>) -> Result<(Act, Pieces<'_>), LineFault>
     ensures { Gives (λ x. (x.0, left x.1)) result (pull_at (left pieces.entry)) }
 {
-    let (name, rest) = name_at(pieces)?;
+    let (name, rest) = wide_at(pieces)?;
     Ok((Act::Pull { name }, rest))
 }
 
@@ -63,14 +63,14 @@ fn look_at(pieces: Pieces<'_>) -> Result<(Act, Pieces<'_>), LineFault>
 fn ran_at(pieces: Pieces<'_>) -> Result<(Act, Pieces<'_>), LineFault>
     ensures { Gives (λ x. (x.0, left x.1)) result (ran_at (left pieces.entry)) }
 {
-    let (us, rest) = name_at(pieces)?;
+    let (us, rest) = wide_at(pieces)?;
     Ok((Act::Ran { us }, rest))
 }
 
 fn wake_at(pieces: Pieces<'_>) -> Result<(Act, Pieces<'_>), LineFault>
     ensures { Gives (λ x. (x.0, left x.1)) result (wake_at (left pieces.entry)) }
 {
-    let (name, rest) = name_at(pieces)?;
+    let (name, rest) = wide_at(pieces)?;
     Ok((Act::Wake { name }, rest))
 }
 

@@ -2,7 +2,7 @@
 
 ghost use Rattle.std.specs.Prelude.{◌≡◌, ◌≤◌, IfOk};
 ghost use Rattle.flat_policy.specs.Texts.Pieces.{
-    number_within, next_piece, name_at, group_at, base_at, cluster_at, actor_at, moment_at, bound_within, bound_at, bucket_at, end_at
+    most_of_32, number_within, next_piece, group_at, base_at, cluster_at, actor_at, moment_at, bound_within, bound_at, bucket_at, end_at
 };
 ghost use Rattle.trace_text.specs.Reading.{Gives, left};
 
@@ -22,39 +22,44 @@ pub fn number_at(pieces: Pieces<'_>, most: u64) -> Result<(u64, Pieces<'_>), Lin
     Ok((number, rest))
 }
 
-pub fn name_at(pieces: Pieces<'_>) -> Result<(u32, Pieces<'_>), LineFault>
-    ensures { Gives (λ x. (x.0, left x.1)) result (name_at (left pieces.entry)) }
+/// A number of at most so much, in a byte.
+pub fn small_at(pieces: Pieces<'_>, most: u8) -> Result<(u8, Pieces<'_>), LineFault>
+    ensures { Gives (λ x. (x.0, left x.1)) result (next_piece (number_within most) (left pieces.entry)) }
 {
-    let (name, rest) = number_at(pieces, u64::from(u32::MAX))?;
-    Ok((name as u32, rest))
+    let (number, rest) = number_at(pieces, u64::from(most))?;
+    Ok((number as u8, rest))
+}
+
+/// A number of 32 bits.
+pub fn wide_at(pieces: Pieces<'_>) -> Result<(u32, Pieces<'_>), LineFault>
+    ensures { Gives (λ x. (x.0, left x.1)) result (next_piece (number_within most_of_32) (left pieces.entry)) }
+{
+    let (number, rest) = number_at(pieces, u64::from(u32::MAX))?;
+    Ok((number as u32, rest))
 }
 
 pub fn group_at(pieces: Pieces<'_>) -> Result<(u8, Pieces<'_>), LineFault>
     ensures { Gives (λ x. (x.0, left x.1)) result (group_at (left pieces.entry)) }
 {
-    let (group, rest) = number_at(pieces, 63)?;
-    Ok((group as u8, rest))
+    small_at(pieces, 63)
 }
 
 pub fn base_at(pieces: Pieces<'_>) -> Result<(u8, Pieces<'_>), LineFault>
     ensures { Gives (λ x. (x.0, left x.1)) result (base_at (left pieces.entry)) }
 {
-    let (base, rest) = number_at(pieces, 127)?;
-    Ok((base as u8, rest))
+    small_at(pieces, 127)
 }
 
 pub fn cluster_at(pieces: Pieces<'_>) -> Result<(u8, Pieces<'_>), LineFault>
     ensures { Gives (λ x. (x.0, left x.1)) result (cluster_at (left pieces.entry)) }
 {
-    let (cluster, rest) = number_at(pieces, 15)?;
-    Ok((cluster as u8, rest))
+    small_at(pieces, 15)
 }
 
 pub fn actor_at(pieces: Pieces<'_>) -> Result<(u8, Pieces<'_>), LineFault>
     ensures { Gives (λ x. (x.0, left x.1)) result (actor_at (left pieces.entry)) }
 {
-    let (actor, rest) = number_at(pieces, 15)?;
-    Ok((actor as u8, rest))
+    small_at(pieces, 15)
 }
 
 pub fn moment_at(pieces: Pieces<'_>) -> Result<(u64, Pieces<'_>), LineFault>

@@ -2,12 +2,20 @@
 #![tactic(auto)]
 
 mod acts;
+mod answers;
 mod fields;
+mod line_out;
+mod lines;
 mod numerals;
 mod pieces;
+mod runs;
 mod words;
+mod writing;
 
 pub use flat_policy::texts::{Given, LineFault, Power, ProgramLine, RunLine};
+pub use line_out::LineOut;
+pub use lines::read_step;
 pub use numerals::read_numeral;
 pub use pieces::piece;
-pub use acts::step_at;
+pub use runs::{read_program, read_run};
+pub use writing::write_step;

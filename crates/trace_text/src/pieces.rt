@@ -1,6 +1,6 @@
 //! The pieces of a line, one after the other.
 
-ghost use Rattle.std.specs.Prelude.{◌≡◌, ◌∷◌, IfSome, IfNone};
+ghost use Rattle.std.specs.Prelude.{◌≡◌, ◌∷◌, ◌↔◌, [], IfSome, IfNone, IsTrue};
 ghost use Rattle.std.specs.Option.{option_copied};
 ghost use Rattle.flat_policy.specs.Texts.Pieces.{pieces, next_piece, at_end};
 ghost use Rattle.trace_text.specs.Reading.{Gives, left, as_it_is, piece_among};
@@ -52,13 +52,20 @@ pub fn next(pieces: Pieces<'_>) -> Result<(&[u8], Pieces<'_>), LineFault>
     }
 }
 
-/// No piece is left.
-pub fn end(pieces: Pieces<'_>) -> Result<(), LineFault>
-    ensures { Gives (λ x. x) result (at_end tt (left pieces.entry)) }
+/// Whether no piece is left.
+pub fn is_done(pieces: Pieces<'_>) -> bool
+    ensures { IsTrue result ↔ (left pieces.entry ≡ []) }
+{
+    pieces.rest.is_none()
+}
+
+/// What was read, where no piece is left.
+pub fn at_end<T: Copy>(value: T, pieces: Pieces<'_>) -> Result<T, LineFault>
+    ensures { result ≡ at_end value (left pieces.entry) }
 {
     match pieces.rest {
         Some(_) => Err(LineFault::Word),
-        None => Ok(()),
+        None => Ok(value),
     }
 }
 
