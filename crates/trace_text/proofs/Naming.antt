@@ -1,13 +1,15 @@
 -- What stands behind a word is read by the word's name.
-use Rattle.std.proofs.Common.{[], ap, arith, cond, get_or, length, List, refl, subst, sym, ℕ, ◌<◌, ◌≡◌, ◌≤◌, ◌∙◌, ◌∷◌, ◌&&◌, ◌||◌, Bool, true, false, Result, Ok, Err, Option, None, Some, inl, inr}
+use Rattle.std.proofs.Common.{[], ap, arith, codes, cond, get_or, length, List, refl, subst, sym, ℕ, ◌<◌, ◌≡◌, ◌≤◌, ◌∙◌, ◌∷◌, ◌&&◌, ◌||◌, Bool, true, false, Result, Ok, Err, Option, None, Some, inl, inr}
 use Rattle.std.specs.List.{list_all}
 use Rattle.std.proofs.Math.Dec.{eqb, leb, ltb}
 use Rattle.std.proofs.lemmas.Bool.{and_parts, and_left, and_right, cases_Bool, eqb-false, eqb-true, leb-true, ltb-true, ne_eqb, or_cases}
 use Rattle.flat_policy.specs.declared.texts.LineFault.{LineFault}
 use Rattle.flat_policy.specs.Texts.Answers.{answer_at, place_at, refusal_at}
 use Rattle.flat_policy.specs.Texts.Lines.{read_run_pieces}
-use Rattle.flat_policy.specs.Texts.Pieces.{Reading, Worded, and_then, followed_by, next_piece, same_text, value_of_word, word_among, worded}
+use Rattle.flat_policy.specs.Texts.Pieces.{Reading, Worded, and_then, followed_by, next_piece, or_word_fault, same_text, value_of_word, word_among, worded}
 use Rattle.flat_policy.specs.Texts.Steps.{act_at}
+use Rattle.trace_text.proofs.Readings.{ok_is}
+use Rattle.trace_text.specs.Reading.{as_it_is}
 use Rattle.trace_text.specs.Naming.{act_behind, act_names, answer_behind, answer_names, place_behind, place_names, refusal_behind, refusal_names, run_behind, run_names, words_for}
 use Rattle.flat_policy.specs.declared.texts.LineFault.TheVariants as line_faults
 
@@ -63,6 +65,20 @@ no_first n (w ∷ ws) p some long none =
           rw (unlike_lengths w.word p (λ same. is (omega arith))) (no_first n ws p some long g)
     ]
 
+-- the next piece, where it is a word, and where it is none
+word_read : {W : Type 0} (names : List (Worded W)) (ps : List (List ℕ)) (p : List ℕ) (qs : List (List ℕ)) → next_piece as_it_is ps ≡ Ok (p, qs) → next_piece (word_among names) ps ≡ and_then (or_word_fault (value_of_word names p)) (λ x. Ok (x, qs))
+word_read names [] p qs e = absurd cc
+word_read names (r ∷ rs) p qs e =
+    ap (λ (x : List ℕ × List (List ℕ)). and_then (or_word_fault (value_of_word names x.0)) (λ y. Ok (y, x.1))) (ok_is (r, rs) (p, qs) e)
+
+pub word_found : {W : Type 0} (names : List (Worded W)) (ps : List (List ℕ)) (p : List ℕ) (qs : List (List ℕ)) (w : W) → next_piece as_it_is ps ≡ Ok (p, qs) → Some w ≡ value_of_word names p → next_piece (word_among names) ps ≡ Ok (w, qs)
+word_found {W} names ps p qs w e f =
+    word_read names ps p qs e ∙ ap (λ (o : Option W). and_then (or_word_fault o) (λ x. Ok (x, qs))) (sym f)
+
+pub word_missed : {W : Type 0} (names : List (Worded W)) (ps : List (List ℕ)) (p : List ℕ) (qs : List (List ℕ)) → next_piece as_it_is ps ≡ Ok (p, qs) → None ≡ value_of_word names p → next_piece (word_among names) ps ≡ Err line_faults.Word
+word_missed {W} names ps p qs e f =
+    word_read names ps p qs e ∙ ap (λ (o : Option W). and_then (or_word_fault o) (λ x. Ok (x, qs))) (sym f)
+
 -- the first piece, read by its name
 by_word : {W A : Type 0} (of : W → List (List ℕ) → Reading A) (names : List (Worded W)) (p : List ℕ) (ps : List (List ℕ)) → followed_by (next_piece (word_among (words_for of names)) (p ∷ ps)) (λ arguments rest. arguments rest) ≡ followed_by (next_piece (word_among names) (p ∷ ps)) of
 by_word of [] p ps = refl
@@ -87,3 +103,17 @@ refusal_by_name ps = by_name refusal_behind refusal_names ps
 
 pub answer_by_name : (ps : List (List ℕ)) → answer_at ps ≡ followed_by (next_piece (word_among answer_names) ps) answer_behind
 answer_by_name ps = by_name answer_behind answer_names ps
+
+pub run_by_name : (ps : List (List ℕ)) → read_run_pieces ps ≡ and_then (next_piece (word_among run_names) ps) (λ w. run_behind w.0 w.1)
+run_by_name [] = refl
+run_by_name (p ∷ ps) =
+    elim (cases_Bool (same_text (codes "thread") p)) [
+      | inl e ↦ rw e refl
+      | inr e ↦ elim (cases_Bool (same_text (codes "off") p)) [
+        | inl f ↦ rw (e, f) refl
+        | inr f ↦ elim (cases_Bool (same_text (codes "on") p)) [
+          | inl g ↦ rw (e, f, g) refl
+          | inr g ↦ rw (e, f, g) refl
+        ]
+      ]
+    ]

@@ -10,9 +10,9 @@ and_then_ok (Err d) f y e = absurd cc
 -- a fault of a reading that always goes on to a value
 pub and_then_err : {A B : Type 0} (r : Result A LineFault) (f : A → B) (d : LineFault) → and_then r (λ x. Ok (f x)) ≡ Err d → r ≡ Err d
 and_then_err (Ok x) f d e = absurd cc
-and_then_err (Err d) f d' e = e
+and_then_err (Err d) f d' e = let same : d ≡ d' = cc in rw same refl
 
-ok_is : {A : Type 0} (x y : A) → ◌≡◌ {A = Result A LineFault} (Ok x) (Ok y) → x ≡ y
+pub ok_is : {A : Type 0} (x y : A) → ◌≡◌ {A = Result A LineFault} (Ok x) (Ok y) → x ≡ y
 ok_is x y e = cc
 
 pub next_ok : {A : Type 0} (of : List ℕ → Result A LineFault) (p : List ℕ) (ps : List (List ℕ)) (x : A) (qs : List (List ℕ)) → next_piece of (p ∷ ps) ≡ Ok (x, qs) → (of p ≡ Ok x) × (ps ≡ qs)

@@ -1,5 +1,5 @@
 -- Spans that are read pair by pair.
-use Rattle.std.proofs.Common.{[], ap, append_assoc, arith, drop, length, List, refl, replicate, suc, sym, take, zero, ℕ, ◌++◌, ◌+◌, ◌-◌, ◌<◌, ◌≡◌, ◌≢◌, ◌∙◌, ◌∷◌, Result, Ok, Err}
+use Rattle.std.proofs.Common.{[], ap, append_assoc, arith, drop, length, List, refl, replicate, subst, suc, sym, take, zero, ℕ, ◌++◌, ◌+◌, ◌-◌, ◌<◌, ◌≡◌, ◌≢◌, ◌∙◌, ◌∷◌, Result, Ok, Err}
 use Rattle.std.proofs.Math.ListN.{set}
 use Rattle.std.proofs.lemmas.List.{drop-drop, drop-replicate, drop-set-lt, length-set, take_more_set}
 use Rattle.flat_policy.specs.declared.texts.LineFault.{LineFault}
@@ -16,7 +16,7 @@ pairs_more : (room : ℕ) (ps qs rs : List (List ℕ)) (sleep run : ℕ) → nex
 pairs_more room [] qs rs sleep run e f = absurd cc
 pairs_more room (p ∷ []) qs rs sleep run e f =
     let a = next_ok span_within p [] sleep qs e in
-    let g : next_piece span_within [] ≡ Ok (run, rs) = rw a.1 f in
+    let g : next_piece span_within [] ≡ Ok (run, rs) = subst (λ (r : List (List ℕ)). next_piece span_within r ≡ Ok (run, rs)) (sym a.1) f in
     absurd cc
 pairs_more room (p ∷ q ∷ ps) qs rs sleep run e f =
     let a = next_ok span_within p (q ∷ ps) sleep qs e in
@@ -33,8 +33,9 @@ pairs_stop_later : (room : ℕ) (ps qs : List (List ℕ)) (sleep : ℕ) (d : Lin
 pairs_stop_later room [] qs sleep d e f = absurd cc
 pairs_stop_later room (p ∷ []) qs sleep d e f =
     let a = next_ok span_within p [] sleep qs e in
-    let g : next_piece span_within [] ≡ Err d = rw a.1 f in
-    rw a.0 g
+    let g : next_piece span_within [] ≡ Err d = subst (λ (r : List (List ℕ)). next_piece span_within r ≡ Err d) (sym a.1) f in
+    let same : line_faults.Word ≡ d = cc in
+    rw (a.0, ← same) refl
 pairs_stop_later room (p ∷ q ∷ ps) qs sleep d e f =
     let a = next_ok span_within p (q ∷ ps) sleep qs e in
     let g : next_piece span_within (q ∷ ps) ≡ Err d = rw a.1 f in
@@ -74,4 +75,4 @@ list_more list n a b lt =
 pub list_unused : (list : List ℕ) (n a b : ℕ) → drop n list ≡ replicate (15 - n) 0 → drop (n + 2) (set (set list n a) (n + 1) b) ≡ replicate (15 - (n + 2)) 0
 list_unused list n a b unused =
     let less : (15 - n) - 2 ≡ 15 - (n + 2) = omega arith in
-    rw (drop-set-lt (n + 2) (set list n a) (n + 1) b (omega arith), drop-set-lt (n + 2) list n a (omega arith), ← drop-drop 2 n list, unused, drop-replicate 2 (15 - n) 0, less) refl
+    rw (drop-set-lt (n + 2) (set list n a) (n + 1) b (omega arith), drop-set-lt (n + 2) list n a (omega arith), ← drop-drop 2 n list, unused, drop-replicate {X = ℕ} 2 (15 - n) 0, less) refl

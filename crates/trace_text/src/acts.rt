@@ -4,12 +4,15 @@ ghost use Rattle.std.specs.Prelude.{◌≡◌};
 ghost use Rattle.flat_policy.specs.Texts.Steps.{
     act_at, step_at, make_at, enter_at, offer_at, pull_at, looks_at, ran_at, wake_at, off_at, on_at
 };
+ghost use Rattle.flat_policy.specs.Texts.Pieces.{next_piece, word_among};
+ghost use Rattle.trace_text.specs.Naming.{act_behind, act_names};
 ghost use Rattle.trace_text.specs.Reading.{Gives, left};
 
 use crate::fields::{
     actor_at, base_at, bound_at, bucket_at, cluster_at, end_at, group_at, moment_at, wide_at,
 };
 use crate::pieces::{Pieces, next};
+use crate::words::{ActWord, act_word};
 use flat_policy::texts::LineFault;
 use sched_base::{Act, Step};
 
@@ -88,29 +91,46 @@ fn on_at(pieces: Pieces<'_>) -> Result<(Act, Pieces<'_>), LineFault>
     Ok((Act::On { cluster }, rest))
 }
 
+fn act_word_at(pieces: Pieces<'_>) -> Result<(ActWord, Pieces<'_>), LineFault>
+    ensures { Gives (λ x. (x.0, left x.1)) result (next_piece (word_among act_names) (left pieces.entry)) }
+{
+    let (piece, rest) = next(pieces)?;
+    match act_word(piece) {
+        Some(word) => Ok((word, rest)),
+        None => Err(LineFault::Word),
+    }
+}
+
+/// What stands behind a word of an act.
+fn act_behind(word: ActWord, pieces: Pieces<'_>) -> Result<(Act, Pieces<'_>), LineFault>
+    ensures { Gives (λ x. (x.0, left x.1)) result (act_behind word (left pieces.entry)) }
+{
+    match word {
+        ActWord::Make => make_at(pieces),
+        ActWord::Enter => enter_at(pieces),
+        ActWord::Select => Ok((Act::Select, pieces)),
+        ActWord::Offer => offer_at(pieces),
+        ActWord::Pull => pull_at(pieces),
+        ActWord::Look => look_at(pieces),
+        ActWord::Aim => Ok((Act::Aim, pieces)),
+        ActWord::Ran => ran_at(pieces),
+        ActWord::Sleep => Ok((Act::Sleep, pieces)),
+        ActWord::Wake => wake_at(pieces),
+        ActWord::End => Ok((Act::End, pieces)),
+        ActWord::Blocked => Ok((Act::Blocked, pieces)),
+        ActWord::Refresh => Ok((Act::Refresh, pieces)),
+        ActWord::Off => off_at(pieces),
+        ActWord::On => on_at(pieces),
+    }
+}
+
 /// An act, from its word on.
+#[tactic(auto, using(crate::proofs::Naming::act_by_name))]
 fn act_at(pieces: Pieces<'_>) -> Result<(Act, Pieces<'_>), LineFault>
     ensures { Gives (λ x. (x.0, left x.1)) result (act_at (left pieces.entry)) }
 {
-    let (word, rest) = next(pieces)?;
-    match word {
-        b"make" => make_at(rest),
-        b"enter" => enter_at(rest),
-        b"select" => Ok((Act::Select, rest)),
-        b"offer" => offer_at(rest),
-        b"pull" => pull_at(rest),
-        b"look" => look_at(rest),
-        b"aim" => Ok((Act::Aim, rest)),
-        b"ran" => ran_at(rest),
-        b"sleep" => Ok((Act::Sleep, rest)),
-        b"wake" => wake_at(rest),
-        b"end" => Ok((Act::End, rest)),
-        b"blocked" => Ok((Act::Blocked, rest)),
-        b"refresh" => Ok((Act::Refresh, rest)),
-        b"off" => off_at(rest),
-        b"on" => on_at(rest),
-        _ => Err(LineFault::Word),
-    }
+    let (word, rest) = act_word_at(pieces)?;
+    act_behind(word, rest)
 }
 
 /// A step, from its moment on.

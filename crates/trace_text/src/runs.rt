@@ -4,7 +4,8 @@ ghost use Rattle.std.specs.Prelude.{◌≡◌, ◌-◌, IfOk, drop, replicate, t
 ghost use Rattle.flat_policy.specs.Texts.Lines.{
     power_at, program_at, read_run_line, read_run_pieces, span_within, spans_at
 };
-ghost use Rattle.flat_policy.specs.Texts.Pieces.{next_piece, pieces};
+ghost use Rattle.flat_policy.specs.Texts.Pieces.{next_piece, pieces, word_among};
+ghost use Rattle.trace_text.specs.Naming.{run_behind, run_names};
 ghost use Rattle.trace_text.specs.Reading.{Gives, left};
 ghost use Rattle.trace_text.specs.Runs.{
     HasNoMoreSpans, HasNoMoreSpansIn, power_of, program_of, read_program_line, read_thread_pieces, run_says
@@ -13,7 +14,11 @@ ghost use Rattle.trace_text.specs.Runs.{
 use crate::fields::{base_at, bound_at, bucket_at, cluster_at, group_at, number_at, wide_at};
 use crate::lines::LONGEST;
 use crate::pieces::{Pieces, at_end, is_done, next, pieces_of};
+use crate::words::{RunWord, run_word};
 use flat_policy::texts::{LineFault, Power, ProgramLine, RunLine};
+
+/// How many pairs of a sleep and a run may follow the first run.
+const PAIRS: usize = 7;
 
 /// The spans of a program: the first so many of the list, and 0 in the others.
 #[derive(Clone, Copy)]
@@ -43,7 +48,7 @@ fn spans_at(pieces: Pieces<'_>) -> Result<Spans, LineFault>
     let mut list = [0; 15];
     list[0] = first;
     let mut count: usize = 1;
-    for _ in 0..7 {
+    for _ in 0..PAIRS {
         if is_done(rest) {
             break;
         }
@@ -69,13 +74,14 @@ fn program_at(pieces: Pieces<'_>) -> Result<ProgramLine, LineFault>
     let (base, rest) = base_at(rest)?;
     let (bound, rest) = bound_at(rest)?;
     let spans = spans_at(rest)?;
+    let list = spans.list;
     Ok(ProgramLine {
         name,
         group,
         bucket,
         base,
         bound,
-        spans: spans.list,
+        spans: list,
         count: spans.count,
     })
 }
@@ -94,26 +100,35 @@ fn power_at(on: bool, pieces: Pieces<'_>) -> Result<Power, LineFault>
     at_end(power, rest)
 }
 
+fn run_word_at(pieces: Pieces<'_>) -> Result<(RunWord, Pieces<'_>), LineFault>
+    ensures { Gives (λ x. (x.0, left x.1)) result (next_piece (word_among run_names) (left pieces.entry)) }
+{
+    let (piece, rest) = next(pieces)?;
+    match run_word(piece) {
+        Some(word) => Ok((word, rest)),
+        None => Err(LineFault::Word),
+    }
+}
+
+/// What stands behind the word of a line of a run.
+fn run_behind(word: RunWord, pieces: Pieces<'_>) -> Result<RunLine, LineFault>
+    ensures exact { Gives run_says result (run_behind word (left pieces.entry)) }
+    ensures unused { IfOk result HasNoMoreSpansIn }
+{
+    match word {
+        RunWord::Thread => Ok(RunLine::Thread(program_at(pieces)?)),
+        RunWord::Off => Ok(RunLine::Power(power_at(false, pieces)?)),
+        RunWord::On => Ok(RunLine::Power(power_at(true, pieces)?)),
+    }
+}
+
+#[tactic(auto, using(crate::proofs::Naming::run_by_name))]
 fn run_at(pieces: Pieces<'_>) -> Result<RunLine, LineFault>
     ensures exact { Gives run_says result (read_run_pieces (left pieces.entry)) }
     ensures unused { IfOk result HasNoMoreSpansIn }
 {
-    let (word, rest) = next(pieces)?;
-    match word {
-        b"thread" => {
-            let program = program_at(rest)?;
-            Ok(RunLine::Thread(program))
-        }
-        b"off" => {
-            let power = power_at(false, rest)?;
-            Ok(RunLine::Power(power))
-        }
-        b"on" => {
-            let power = power_at(true, rest)?;
-            Ok(RunLine::Power(power))
-        }
-        _ => Err(LineFault::Word),
-    }
+    let (word, rest) = run_word_at(pieces)?;
+    run_behind(word, rest)
 }
 
 fn thread_at(pieces: Pieces<'_>) -> Result<ProgramLine, LineFault>
