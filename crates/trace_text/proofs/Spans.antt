@@ -20,7 +20,7 @@ pairs_more room (p ∷ []) qs rs sleep run e f =
     absurd cc
 pairs_more room (p ∷ q ∷ ps) qs rs sleep run e f =
     let a = next_ok span_within p (q ∷ ps) sleep qs e in
-    let g : next_piece span_within (q ∷ ps) ≡ Ok (run, rs) = rw a.1 f in
+    let g : next_piece span_within (q ∷ ps) ≡ Ok (run, rs) = subst (λ (r : List (List ℕ)). next_piece span_within r ≡ Ok (run, rs)) (sym a.1) f in
     let b = next_ok span_within q ps run rs g in
     rw (a.0, b.0, b.1) refl
 
@@ -38,7 +38,7 @@ pairs_stop_later room (p ∷ []) qs sleep d e f =
     rw (a.0, ← same) refl
 pairs_stop_later room (p ∷ q ∷ ps) qs sleep d e f =
     let a = next_ok span_within p (q ∷ ps) sleep qs e in
-    let g : next_piece span_within (q ∷ ps) ≡ Err d = rw a.1 f in
+    let g : next_piece span_within (q ∷ ps) ≡ Err d = subst (λ (r : List (List ℕ)). next_piece span_within r ≡ Err d) (sym a.1) f in
     rw (a.0, next_err span_within q ps d g) refl
 
 regroup : (front : List ℕ) (sleep run : ℕ) (r : Result (List ℕ) LineFault) → after_spans front (and_then r (λ rest. Ok (sleep ∷ run ∷ rest))) ≡ after_spans (front ++ sleep ∷ run ∷ []) r
