@@ -5,7 +5,8 @@ use Rattle.std.proofs.Math.Dec.{eqb, leb, ltb}
 use Rattle.std.proofs.lemmas.Bool.{and_parts, and_left, and_right, cases_Bool, eqb-false, eqb-true, leb-true, ltb-true, ne_eqb, or_cases}
 use Rattle.flat_policy.specs.declared.texts.LineFault.{LineFault}
 use Rattle.flat_policy.specs.Texts.Answers.{answer_at, place_at, refusal_at}
-use Rattle.flat_policy.specs.Texts.Lines.{read_run_pieces}
+use Rattle.flat_policy.specs.Texts.Lines.{program_at, read_run_pieces}
+use Rattle.trace_text.specs.Runs.{read_thread_pieces}
 use Rattle.flat_policy.specs.Texts.Pieces.{Reading, Worded, and_then, followed_by, next_piece, or_word_fault, same_text, value_of_word, word_among, worded}
 use Rattle.flat_policy.specs.Texts.Steps.{act_at}
 use Rattle.trace_text.proofs.Readings.{ok_is}
@@ -117,3 +118,11 @@ run_by_name (p ∷ ps) =
         ]
       ]
     ]
+
+pub thread_found : (ps : List (List ℕ)) (p : List ℕ) (qs : List (List ℕ)) → next_piece as_it_is ps ≡ Ok (p, qs) → p ≡ codes "thread" → read_thread_pieces ps ≡ program_at qs
+thread_found [] p qs e is = absurd cc
+thread_found (r ∷ rs) p qs e is =
+    let same : (r, rs) ≡ (p, qs) = ok_is (r, rs) (p, qs) e in
+    let word : r ≡ codes "thread" = ap (λ (x : List ℕ × List (List ℕ)). x.0) same ∙ is in
+    let rest : rs ≡ qs = ap (λ (x : List ℕ × List (List ℕ)). x.1) same in
+    ap (λ (w : List ℕ). read_thread_pieces (w ∷ rs)) word ∙ ap program_at rest

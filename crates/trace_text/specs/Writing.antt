@@ -1,5 +1,5 @@
 -- Steps and answers whose numbers are in the ranges of lines, and how their texts stand.
-use Rattle.std.specs.Prelude.{IfSome, List, [], codes, ℕ, ⊤, ◌++◌, ◌<◌, ◌^◌, ◌≡◌, ◌≤◌, ◌∷◌}
+use Rattle.std.specs.Prelude.{IfSome, List, codes, ℕ, ⊤, ◌++◌, ◌<◌, ◌^◌, ◌≡◌, ◌≤◌}
 use Rattle.sched_base.specs.declared.Act.{Act}
 use Rattle.sched_base.specs.declared.Answer.{Answer}
 use Rattle.sched_base.specs.declared.Place.{Place}
@@ -74,8 +74,3 @@ pub record IsStepText (text : List ℕ) : Type 0 where
 -- what stands behind the step of a line that gives an answer
 abbrev pub answer_part : Answer → List ℕ
 answer_part a = codes " = " ++ answer_text a ++ newline
-
--- pieces, each behind a space
-abbrev pub behind_spaces : List (List ℕ) → List ℕ
-behind_spaces [] = []
-behind_spaces (p ∷ ps) = 32 ∷ (p ++ behind_spaces ps)

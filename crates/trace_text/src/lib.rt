@@ -4,6 +4,7 @@
 mod acts;
 mod answers;
 mod fields;
+pub mod laws;
 mod line_out;
 mod lines;
 mod numerals;
@@ -18,4 +19,7 @@ pub use lines::read_step;
 pub use numerals::read_numeral;
 pub use pieces::piece;
 pub use runs::{read_program, read_run};
-pub use writing::write_step;
+pub use writing::{write_answer, write_bare, write_step};
+
+#[cfg(test)]
+mod tests;
