@@ -3,7 +3,7 @@ use Rattle.std.proofs.Common.{[], ap, append_assoc, List, refl, sym, ℕ, ◌++�
 use Rattle.std.proofs.Math.Dec.{eqb}
 use Rattle.std.proofs.lemmas.Bool.{and_parts, not-true}
 use Rattle.flat_policy.specs.Texts.Pieces.{before_piece, pieces, spaced}
-use Rattle.trace_text.proofs.Numerals.{is_plain}
+use Rattle.trace_text.proofs.PiecesAgain.{is_plain}
 
 -- each piece is without a space
 abbrev pub AllPlain : List (List ℕ) → Type 0

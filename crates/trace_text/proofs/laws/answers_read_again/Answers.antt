@@ -1,4 +1,4 @@
-use Rattle.trace_text.proofs.Lines.{answers_again}
+use Rattle.trace_text.proofs.WholeLines.{answers_again}
 use Rattle.trace_text.proofs.laws.answers_read_again.Goals as goal
 
 pub returns : goal.returns

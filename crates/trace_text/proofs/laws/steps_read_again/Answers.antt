@@ -1,4 +1,4 @@
-use Rattle.trace_text.proofs.Lines.{steps_again}
+use Rattle.trace_text.proofs.WholeLines.{steps_again}
 use Rattle.trace_text.proofs.laws.steps_read_again.Goals as goal
 
 pub returns : goal.returns

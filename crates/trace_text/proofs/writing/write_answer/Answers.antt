@@ -9,3 +9,6 @@ put_answer-requires c =
 pub push-requires-2 : goal.push-requires-2
 push-requires-2 c =
     omega (arith, c.put_answer.ensures.room, written_short c.args.out.now c.requires.step, simp length-append at (ap length c.push.ensures))
+
+pub push-requires : goal.push-requires
+push-requires c = omega (arith, written_short c.args.out.now c.requires.step)

@@ -1,5 +1,5 @@
 -- Lines that were written are read again.
-use Rattle.std.proofs.Common.{[], ap, append_assoc, arith, codes, decimal, length, length-append, List, refl, subst, sym, ℕ, ◌++◌, ◌<◌, ◌^◌, ◌≡◌, ◌≤◌, ◌∙◌, ◌∷◌, None, Ok, Result, Some}
+use Rattle.std.proofs.Common.{[], ap, append_assoc, arith, codes, decimal, length, length-append, List, refl, subst, sym, ℕ, ◌++◌, ◌+◌, ◌<◌, ◌^◌, ◌≡◌, ◌≤◌, ◌∙◌, ◌∷◌, None, Ok, Result, Some}
 use Rattle.std.proofs.lemmas.Bool.{le-ltb}
 use Rattle.std.proofs.lemmas.Fmt.{length-decimal-le}
 use Rattle.std.proofs.lemmas.List.{append-nil}
@@ -13,7 +13,7 @@ use Rattle.flat_policy.specs.Texts.Lines.{given_at, read_given, read_step_line}
 use Rattle.flat_policy.specs.Texts.Pieces.{Reading, and_then, at_end, pieces, spaced}
 use Rattle.flat_policy.specs.Texts.Steps.{act_pieces, step_at, step_pieces, step_text}
 use Rattle.trace_text.proofs.Again.{act_plain, answer_again, answer_plain, step_again}
-use Rattle.trace_text.proofs.Numerals.{decimal_plain}
+use Rattle.trace_text.proofs.PiecesAgain.{decimal_plain}
 use Rattle.trace_text.proofs.Rejoined.{AllPlain, AllPlain-append, pieces_spaced, spaced-append}
 use Rattle.trace_text.proofs.Texts.{step_short}
 use Rattle.trace_text.specs.Laws.{AnswersReadAgain, StepsReadAgain, answered_line}
@@ -121,7 +121,8 @@ answer_short answers.NotAllowed fits = omega arith
 answer_short (answers.LookFirst c) fits = omega (arith, small c (omega arith))
 
 answered_short : (s : Step) (a : Answer) → StepFits s → AnswerFits a → length (answered_line s a) ≤ 256
-answered_short s a fits ok = simp length-append (omega (arith, step_short s fits, answer_short a ok))
+answered_short s a fits ok =
+    omega (arith, length-append (step_text s ++ codes " = ") (answer_text a), length-append (step_text s) (codes " = "), step_short s fits, answer_short a ok)
 
 pub answers_again : AnswersReadAgain
 answers_again = λ s a fits ok. (refl, read_line (answered_line s a) (answered_pieces s a) (Ok (record { step = s; answer = Some a })) (answered_short s a fits ok) (answered_again s a fits ok) (answered_given s a fits ok))
