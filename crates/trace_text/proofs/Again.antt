@@ -1,18 +1,13 @@
 -- Steps and answers that were written are read again.
-use Rattle.std.proofs.Common.{[], ap, append_assoc, append-nil, arith, codes, decimal, le-ltb, length, length-append, List, refl, sym, ℕ, ◌++◌, ◌-◌, ◌<◌, ◌^◌, ◌≡◌, ◌≤◌, ◌∙◌, ◌∷◌, Err, None, Ok, Some, false}
-use Rattle.std.proofs.Math.Dec.{ltb}
+use Rattle.std.proofs.Common.{[], arith, List, refl, ℕ, ◌++◌, ◌-◌, ◌^◌, ◌≡◌, Ok}
 use Rattle.sched_base.specs.declared.Act.{Act}
 use Rattle.sched_base.specs.declared.Answer.{Answer}
 use Rattle.sched_base.specs.declared.Place.{Place}
 use Rattle.sched_base.specs.declared.Step.{Step}
-use Rattle.flat_policy.specs.Texts.Answers.{answer_at, answer_pieces, answer_text, place_at, place_pieces}
-use Rattle.flat_policy.specs.Texts.Lines.{answered_text, newline, read_given, read_step_line}
-use Rattle.flat_policy.specs.Texts.Pieces.{spaced}
-use Rattle.flat_policy.specs.Texts.Steps.{act_at, act_pieces, step_at, step_pieces, step_text}
+use Rattle.flat_policy.specs.Texts.Answers.{answer_at, answer_pieces, place_at, place_pieces}
+use Rattle.flat_policy.specs.Texts.Steps.{act_at, act_pieces, step_at, step_pieces}
 use Rattle.trace_text.proofs.PiecesAgain.{bound_again, bound_plain, bucket_again, bucket_plain, byte_again, decimal_plain, end_again, end_plain, number_again, word_again}
-use Rattle.trace_text.proofs.Rejoined.{AllPlain, AllPlain-append, pieces_spaced, spaced-append}
-use Rattle.trace_text.proofs.Texts.{step_short}
-use Rattle.trace_text.specs.Laws.{AnswersReadAgain, StepsReadAgain, answered_line}
+use Rattle.trace_text.proofs.Rejoined.{AllPlain}
 use Rattle.trace_text.specs.Writing.{ActFits, AnswerFits, PlaceFits, StepFits}
 use Rattle.sched_base.specs.declared.Act.TheVariants as acts
 use Rattle.sched_base.specs.declared.Answer.TheVariants as answers

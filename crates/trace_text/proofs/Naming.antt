@@ -1,13 +1,11 @@
 -- What stands behind a word is read by the word's name.
-use Rattle.std.proofs.Common.{[], ap, arith, codes, cond, get_or, length, List, refl, subst, sym, ℕ, ◌<◌, ◌≡◌, ◌≤◌, ◌∙◌, ◌∷◌, ◌&&◌, ◌||◌, Bool, true, false, Result, Ok, Err, Option, None, Some, inl, inr}
-use Rattle.std.specs.List.{list_all}
+use Rattle.std.proofs.Common.{[], ap, arith, codes, cond, get_or, length, List, refl, subst, sym, ℕ, ◌<◌, ◌≡◌, ◌≤◌, ◌∙◌, ◌∷◌, ◌&&◌, ◌||◌, Bool, true, false, Ok, Err, Option, None, Some, inl, inr}
 use Rattle.std.proofs.Math.Dec.{eqb, leb, ltb}
 use Rattle.std.proofs.lemmas.Bool.{and_parts, and_left, and_right, cases_Bool, eqb-false, eqb-true, leb-true, ltb-true, ne_eqb, or_cases}
-use Rattle.flat_policy.specs.declared.texts.LineFault.{LineFault}
 use Rattle.flat_policy.specs.Texts.Answers.{answer_at, place_at, refusal_at}
 use Rattle.flat_policy.specs.Texts.Lines.{program_at, read_run_pieces}
 use Rattle.trace_text.specs.Runs.{read_thread_pieces}
-use Rattle.flat_policy.specs.Texts.Pieces.{Reading, Worded, and_then, followed_by, next_piece, or_word_fault, same_text, value_of_word, word_among, worded}
+use Rattle.flat_policy.specs.Texts.Pieces.{Reading, Worded, and_then, followed_by, next_piece, or_word_fault, same_text, value_of_word, word_among}
 use Rattle.flat_policy.specs.Texts.Steps.{act_at}
 use Rattle.trace_text.proofs.Readings.{ok_is}
 use Rattle.trace_text.specs.Reading.{as_it_is}

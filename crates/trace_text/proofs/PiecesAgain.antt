@@ -1,14 +1,13 @@
 -- Numerals and other pieces, read again.
-use Rattle.std.proofs.Common.{[], arith, decimal, get_or, inl, inr, length, List, refl, rules, ℕ, ◌-◌, ◌<◌, ◌^◌, ◌≡◌, ◌≤◌, ◌⊎◌, ◌∷◌, ◌&&◌, Bool, IfSome, None, Ok, Option, Result, Some, false, not, true}
+use Rattle.std.proofs.Common.{[], arith, decimal, get_or, inl, inr, length, List, refl, rules, ℕ, ◌-◌, ◌<◌, ◌^◌, ◌≡◌, ◌≤◌, ◌⊎◌, ◌∷◌, ◌&&◌, Bool, IfSome, None, Ok, Option, Some, false, not, true}
 use Rattle.std.specs.List.{list_all}
 use Rattle.std.proofs.Math.Dec.{eqb, leb}
-use Rattle.std.proofs.lemmas.Bool.{and_from, and_parts, cases_lt, leb-true, le-leb, ne_eqb}
+use Rattle.std.proofs.lemmas.Bool.{and_parts, cases_lt, leb-true, le-leb, ne_eqb}
 use Rattle.std.proofs.lemmas.Fmt.{decimal_digit, decimal_nonempty, digits_decimal, digits_value-decimal, first_decimal}
 use Rattle.std.proofs.lemmas.Str.Parse.{IsNumeralModel, numerals_by_fold}
 use Rattle.sched_base.specs.declared.Bucket.{Bucket}
 use Rattle.sched_base.specs.declared.Bucket.TheVariants.{Bg, Df, Fg, Ini, Ui, Ut}
-use Rattle.flat_policy.specs.Texts.Pieces.{bound_piece, bound_within, bucket_piece, bucket_words, end_piece, end_words, is_digit, is_numeral, number_after, number_within, numeral_value, same_text, word_among}
-use Rattle.flat_policy.specs.declared.texts.LineFault.{LineFault}
+use Rattle.flat_policy.specs.Texts.Pieces.{bound_piece, bound_within, bucket_piece, bucket_words, end_piece, end_words, is_digit, is_numeral, number_after, number_within, same_text, word_among}
 
 own : IsNumeralModel (λ ds. list_all is_digit ds ≡ true) (number_after 0)
 own = numerals_by_fold _ (search rules) number_after (search rules)

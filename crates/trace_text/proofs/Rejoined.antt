@@ -2,7 +2,7 @@
 use Rattle.std.proofs.Common.{[], ap, append_assoc, List, refl, sym, ℕ, ◌++◌, ◌≡◌, ◌∙◌, ◌∷◌, not, true}
 use Rattle.std.proofs.Math.Dec.{eqb}
 use Rattle.std.proofs.lemmas.Bool.{and_parts, not-true}
-use Rattle.flat_policy.specs.Texts.Pieces.{before_piece, pieces, spaced}
+use Rattle.flat_policy.specs.Texts.Pieces.{pieces, spaced}
 use Rattle.trace_text.proofs.PiecesAgain.{is_plain}
 
 -- each piece is without a space

@@ -1,10 +1,10 @@
 -- Spans that are read pair by pair.
-use Rattle.std.proofs.Common.{[], ap, append_assoc, arith, drop, length, List, refl, replicate, subst, suc, sym, take, zero, ℕ, ◌++◌, ◌+◌, ◌-◌, ◌<◌, ◌≡◌, ◌≢◌, ◌∙◌, ◌∷◌, Result, Ok, Err}
+use Rattle.std.proofs.Common.{[], ap, append_assoc, arith, drop, length, List, refl, replicate, subst, suc, sym, take, ℕ, ◌++◌, ◌+◌, ◌-◌, ◌<◌, ◌≡◌, ◌≢◌, ◌∙◌, ◌∷◌, Result, Ok, Err}
 use Rattle.std.proofs.Math.ListN.{set}
 use Rattle.std.proofs.lemmas.List.{drop-drop, drop-replicate, drop-set-lt, length-set, take_more_set}
 use Rattle.flat_policy.specs.declared.texts.LineFault.{LineFault}
 use Rattle.flat_policy.specs.Texts.Lines.{span_pairs, span_within}
-use Rattle.flat_policy.specs.Texts.Pieces.{and_then, at_end, next_piece}
+use Rattle.flat_policy.specs.Texts.Pieces.{and_then, next_piece}
 use Rattle.trace_text.proofs.Readings.{next_err, next_ok}
 use Rattle.flat_policy.specs.declared.texts.LineFault.TheVariants as line_faults
 

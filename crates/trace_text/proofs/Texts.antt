@@ -1,5 +1,5 @@
 -- The texts of steps and answers, part by part, and how long they are.
-use Rattle.std.proofs.Common.{[], arith, codes, decimal, length, List, refl, length-append, ℕ, ◌++◌, ◌+◌, ◌<◌, ◌^◌, ◌≡◌, ◌≤◌, ◌∷◌, IfSome, None, Option, Some, true, false, Bool}
+use Rattle.std.proofs.Common.{arith, codes, decimal, length, List, refl, length-append, ℕ, ◌++◌, ◌<◌, ◌^◌, ◌≡◌, ◌≤◌, ◌∷◌, IfSome, None, Option, Some, true, false, Bool}
 use Rattle.std.proofs.lemmas.Fmt.{length-decimal-le}
 use Rattle.sched_base.specs.declared.Act.{Act}
 use Rattle.sched_base.specs.declared.Bucket.{Bucket}

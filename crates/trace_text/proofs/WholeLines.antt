@@ -8,9 +8,9 @@ use Rattle.sched_base.specs.declared.Place.{Place}
 use Rattle.sched_base.specs.declared.Step.{Step}
 use Rattle.flat_policy.specs.declared.texts.Given.{Given}
 use Rattle.flat_policy.specs.declared.texts.LineFault.{LineFault}
-use Rattle.flat_policy.specs.Texts.Answers.{answer_at, answer_pieces, answer_text, place_pieces}
+use Rattle.flat_policy.specs.Texts.Answers.{answer_pieces, answer_text, place_pieces}
 use Rattle.flat_policy.specs.Texts.Lines.{given_at, read_given, read_step_line}
-use Rattle.flat_policy.specs.Texts.Pieces.{Reading, and_then, at_end, pieces, spaced}
+use Rattle.flat_policy.specs.Texts.Pieces.{Reading, and_then, pieces, spaced}
 use Rattle.flat_policy.specs.Texts.Steps.{act_pieces, step_at, step_pieces, step_text}
 use Rattle.trace_text.proofs.Again.{act_plain, answer_again, answer_plain, step_again}
 use Rattle.trace_text.proofs.PiecesAgain.{decimal_plain}

@@ -2,7 +2,17 @@
 
 ghost use Rattle.std.specs.Prelude.{◌≡◌};
 ghost use Rattle.flat_policy.specs.Texts.Steps.{
-    act_at, step_at, make_at, enter_at, offer_at, pull_at, looks_at, ran_at, wake_at, off_at, on_at
+  act_at,
+  step_at,
+  make_at,
+  enter_at,
+  offer_at,
+  pull_at,
+  looks_at,
+  ran_at,
+  wake_at,
+  off_at,
+  on_at,
 };
 ghost use Rattle.flat_policy.specs.Texts.Pieces.{next_piece, word_among};
 ghost use Rattle.trace_text.specs.Naming.{act_behind, act_names};

@@ -3,18 +3,27 @@
 ghost use Rattle.std.specs.Prelude.{◌≡◌};
 ghost use Rattle.flat_policy.specs.Texts.Pieces.{most_of_32, most_of_64, next_piece, word_among};
 ghost use Rattle.flat_policy.specs.Texts.Answers.{
-    answer_at, counted, hand_at_actor, place_at, placed, queue_at, refusal_at
+  answer_at,
+  counted,
+  hand_at_actor,
+  place_at,
+  placed,
+  queue_at,
+  refusal_at,
 };
 ghost use Rattle.trace_text.specs.Naming.{
-    answer_behind, answer_names, place_behind, place_names, refusal_behind, refusal_names
+  answer_behind,
+  answer_names,
+  place_behind,
+  place_names,
+  refusal_behind,
+  refusal_names,
 };
 ghost use Rattle.trace_text.specs.Reading.{Gives, left};
 
 use crate::fields::{actor_at, cluster_at, number_at, small_at, wide_at};
 use crate::pieces::{Pieces, next};
-use crate::words::{
-    AnswerWord, PlaceWord, RefusalWord, answer_word, place_word, refusal_word,
-};
+use crate::words::{AnswerWord, PlaceWord, RefusalWord, answer_word, place_word, refusal_word};
 use flat_policy::texts::LineFault;
 use sched_base::{Answer, Place};
 

@@ -2,7 +2,18 @@
 
 ghost use Rattle.std.specs.Prelude.{◌≡◌, ◌≤◌, IfOk};
 ghost use Rattle.flat_policy.specs.Texts.Pieces.{
-    most_of_32, number_within, next_piece, group_at, base_at, cluster_at, actor_at, moment_at, bound_within, bound_at, bucket_at, end_at
+  most_of_32,
+  number_within,
+  next_piece,
+  group_at,
+  base_at,
+  cluster_at,
+  actor_at,
+  moment_at,
+  bound_within,
+  bound_at,
+  bucket_at,
+  end_at,
 };
 ghost use Rattle.trace_text.specs.Reading.{Gives, left};
 

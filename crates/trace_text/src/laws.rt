@@ -6,12 +6,10 @@ ghost use Rattle.trace_text.specs.Laws.{AnswersReadAgain, StepsReadAgain};
 /// answer.
 pub fn steps_read_again()
     ensures { StepsReadAgain }
-{
-}
+{}
 
 /// The text of each such step with an answer, without its newline, is read as that step with that
 /// answer.
 pub fn answers_read_again()
     ensures { AnswersReadAgain }
-{
-}
+{}

@@ -2,13 +2,24 @@
 
 ghost use Rattle.std.specs.Prelude.{◌≡◌, ◌-◌, IfOk, drop, replicate, take};
 ghost use Rattle.flat_policy.specs.Texts.Lines.{
-    power_at, program_at, read_run_line, read_run_pieces, span_within, spans_at
+  power_at,
+  program_at,
+  read_run_line,
+  read_run_pieces,
+  span_within,
+  spans_at,
 };
 ghost use Rattle.flat_policy.specs.Texts.Pieces.{next_piece, pieces, word_among};
 ghost use Rattle.trace_text.specs.Naming.{run_behind, run_names};
 ghost use Rattle.trace_text.specs.Reading.{Gives, left};
 ghost use Rattle.trace_text.specs.Runs.{
-    HasNoMoreSpans, HasNoMoreSpansIn, power_of, program_of, read_program_line, read_thread_pieces, run_says
+  HasNoMoreSpans,
+  HasNoMoreSpansIn,
+  power_of,
+  program_of,
+  read_program_line,
+  read_thread_pieces,
+  run_says,
 };
 
 use crate::fields::{base_at, bound_at, bucket_at, cluster_at, group_at, number_at, wide_at};

@@ -31,7 +31,10 @@ fn lines_of_a_trace(rt: HostRuntime) {
         ("0 0 select = got 1 ", Some(LineFault::Word)),
         ("0 0 pull 1 = no NotQueued q 16", Some(LineFault::Range)),
         ("0 0 ran 9 = work 18446744073709551615", None),
-        ("0 0 ran 9 = work 18446744073709551616", Some(LineFault::Range)),
+        (
+            "0 0 ran 9 = work 18446744073709551616",
+            Some(LineFault::Range),
+        ),
     ];
     for (line, fault) in cases.iter() {
         assert_eq!(rt; read_step(line.as_bytes()).err(), *fault, "{line}");
@@ -44,7 +47,10 @@ fn lines_of_a_run(rt: HostRuntime) {
     let cases = [
         ("thread 1 0 FG 31 - 5000 2000 12000", None),
         ("thread 1 0 FG 31 - 1 1 1 1 1 1 1 1 1 1 1 1 1 1 1", None),
-        ("thread 1 0 FG 31 - 1 1 1 1 1 1 1 1 1 1 1 1 1 1 1 1", Some(LineFault::Word)),
+        (
+            "thread 1 0 FG 31 - 1 1 1 1 1 1 1 1 1 1 1 1 1 1 1 1",
+            Some(LineFault::Word),
+        ),
         ("thread 1 0 FG 31 - 5000 2000", Some(LineFault::Word)),
         ("thread 1 0 FG 31 - 0", Some(LineFault::Range)),
         ("off 1 4999", None),
@@ -64,7 +70,10 @@ fn lines_of_a_run(rt: HostRuntime) {
 fn written_lines(rt: HostRuntime) {
     let mut out = LineOut::new();
     write_step(&mut out, &MAKE);
-    assert_eq!(rt; out.bytes(), b"1099511627775 15 make 4294967295 63 IN 127 15".as_slice());
+    assert_eq!(rt;
+        out.bytes(),
+        b"1099511627775 15 make 4294967295 63 IN 127 15".as_slice()
+    );
     write_answer(&mut out, &Answer::Work(u64::MAX));
     let text = b"1099511627775 15 make 4294967295 63 IN 127 15 = work 18446744073709551615\n";
     assert_eq!(rt; out.bytes(), text.as_slice());

@@ -3,7 +3,11 @@
 ghost use Rattle.std.specs.Prelude.{◌≡◌};
 ghost use Rattle.flat_policy.specs.Texts.Pieces.{value_of_word, bucket_words, end_words};
 ghost use Rattle.trace_text.specs.Naming.{
-    act_names, answer_names, place_names, refusal_names, run_names
+  act_names,
+  answer_names,
+  place_names,
+  refusal_names,
+  run_names,
 };
 
 use sched_base::Bucket;

@@ -1,4 +1,4 @@
-use Rattle.std.proofs.Common.{[], arith, length, rules, take, ◌+◌, ◌<◌, ◌≡◌, ◌≢◌}
+use Rattle.std.proofs.Common.{[], arith, length, rules, take, ◌+◌, ◌<◌, ◌≢◌}
 use Rattle.std.proofs.lemmas.List.{length-set}
 use Rattle.std.proofs.lemmas.Result.{err_from_is_err_and}
 use Rattle.flat_policy.specs.Texts.Lines.{spans_at}

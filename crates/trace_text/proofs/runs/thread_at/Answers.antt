@@ -1,4 +1,4 @@
-use Rattle.std.proofs.Common.{[], arith, codes, rules, ◌≡◌, ◌∷◌}
+use Rattle.std.proofs.Common.{arith, codes, rules, ◌≡◌}
 use Rattle.std.proofs.lemmas.Slice.Eq.{text_from_reads}
 use Rattle.trace_text.proofs.Naming.{thread_found}
 use Rattle.trace_text.specs.Reading.{left}
