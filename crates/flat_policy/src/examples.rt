@@ -2,7 +2,8 @@
 
 ghost use Rattle.flat_policy.specs.Examples.Loads.{OneStepMakes, SixtySteps};
 ghost use Rattle.flat_policy.specs.Examples.Merging.{TwoAreMerged};
-ghost use Rattle.flat_policy.specs.Examples.OneThread.{OneThreadReplies, OneThreadRuns, OneThreadIsOwn};
+ghost use Rattle.flat_policy.specs.Examples.OneThread.{OneThreadReplies, OneThreadRuns, OneThreadIsOwn, OneThreadIsWorked, OneThreadInCluster, OneThreadInYard, OneThreadIsMerged, OneThreadText};
+ghost use Rattle.flat_policy.specs.Examples.Warps.{WarpIsKept, WindowIsKept};
 ghost use Rattle.flat_policy.specs.Examples.Texts.{LineReadings, RunReadings, LineTexts, SetupTexts, SetupReadings, Judgements};
 
 /// Two actors' lists are put together.
@@ -63,4 +64,39 @@ pub fn one_thread_runs()
 /// It is what its actor's hand allows.
 pub fn one_thread_is_own()
     ensures { OneThreadIsOwn }
+{}
+
+/// It follows the worker rule.
+pub fn one_thread_is_worked()
+    ensures { OneThreadIsWorked }
+{}
+
+/// Its first lines at the cluster are a run of the cluster.
+pub fn one_thread_in_cluster()
+    ensures { OneThreadInCluster }
+{}
+
+/// Its journal is a run of the yard.
+pub fn one_thread_in_yard()
+    ensures { OneThreadInYard }
+{}
+
+/// It is the interleaving of its journals.
+pub fn one_thread_is_merged()
+    ensures { OneThreadIsMerged }
+{}
+
+/// It has a text.
+pub fn one_thread_text()
+    ensures { OneThreadText }
+{}
+
+/// The warp of a run is kept.
+pub fn warp_is_kept()
+    ensures { WarpIsKept }
+{}
+
+/// The starvation window of a run is kept.
+pub fn window_is_kept()
+    ensures { WindowIsKept }
 {}
