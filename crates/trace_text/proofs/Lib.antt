@@ -1,0 +1,9 @@
+pub mod Again
+pub mod Naming
+pub mod PiecesAgain
+pub mod Readings
+pub mod Rejoined
+pub mod Spans
+pub mod Splitting
+pub mod Texts
+pub mod WholeLines

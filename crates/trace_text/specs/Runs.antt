@@ -1,0 +1,41 @@
+-- What a line of a run says, as it is kept.
+use Rattle.std.specs.Prelude.{List, Result, [], codes, drop, replicate, take, ℕ, ⊤, ◌-◌, ◌≡◌, ◌∷◌}
+use Rattle.flat_policy.specs.declared.texts.LineFault.{LineFault}
+use Rattle.flat_policy.specs.declared.texts.Power.{Power}
+use Rattle.flat_policy.specs.declared.texts.ProgramLine.{ProgramLine}
+use Rattle.flat_policy.specs.declared.texts.RunLine.{RunLine}
+use Rattle.flat_policy.specs.Texts.Lines.{RunSays, power_line, program_at, program_line, within_limit}
+use Rattle.flat_policy.specs.Texts.Pieces.{Worded, and_then, next_piece, pieces, word_among, worded}
+use Rattle.flat_policy.specs.Worker.{PowerAt, Program}
+use Rattle.flat_policy.specs.declared.texts.RunLine.TheVariants as run_lines
+
+-- the program of a thread line: its first spans, as many as its count
+abbrev pub program_of : ProgramLine → Program
+program_of p =
+    record { name = p.name; group = p.group; bucket = p.bucket; base = p.base; bound = p.bound; spans = take p.count p.spans }
+
+-- the spans past the count are 0
+abbrev pub HasNoMoreSpans : ProgramLine → Type 0
+HasNoMoreSpans p = drop p.count p.spans ≡ replicate (15 - p.count) 0
+
+abbrev pub power_of : Power → PowerAt
+power_of p = record { cluster = p.cluster; on = p.on; turn = p.turn }
+
+-- what a line of a run says
+abbrev pub run_says : RunLine → RunSays
+run_says (run_lines.Thread p) = program_line (program_of p)
+run_says (run_lines.Power p) = power_line (power_of p)
+
+abbrev pub HasNoMoreSpansIn : RunLine → Type 0
+HasNoMoreSpansIn (run_lines.Thread p) = HasNoMoreSpans p
+HasNoMoreSpansIn (run_lines.Power p) = ⊤
+
+-- the program of a line of a run, where that is a thread line
+abbrev pub thread_word : List (Worded ⊤)
+thread_word = worded (codes "thread") tt ∷ []
+
+abbrev pub read_thread_pieces : List (List ℕ) → Result Program LineFault
+read_thread_pieces ps = and_then (next_piece (word_among thread_word) ps) (λ w. program_at w.1)
+
+abbrev pub read_program_line : List ℕ → Result Program LineFault
+read_program_line line = within_limit line (read_thread_pieces (pieces line))

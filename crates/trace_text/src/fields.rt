@@ -1,0 +1,116 @@
+//! The fields of lines: each a value and the pieces after it.
+
+ghost use Rattle.std.specs.Prelude.{◌≡◌, ◌≤◌, IfOk};
+ghost use Rattle.flat_policy.specs.Texts.Pieces.{
+  most_of_32,
+  number_within,
+  next_piece,
+  group_at,
+  base_at,
+  cluster_at,
+  actor_at,
+  moment_at,
+  bound_within,
+  bound_at,
+  bucket_at,
+  end_at,
+};
+ghost use Rattle.trace_text.specs.Reading.{Gives, left};
+
+use crate::numerals::read_numeral;
+use crate::pieces::{Pieces, next};
+use crate::words::{bucket_of, end_of};
+use flat_policy::texts::LineFault;
+use sched_base::Bucket;
+
+/// A number of at most so much.
+pub fn number_at(pieces: Pieces<'_>, most: u64) -> Result<(u64, Pieces<'_>), LineFault>
+    ensures exact { Gives (λ x. (x.0, left x.1)) result (next_piece (number_within most) (left pieces.entry)) }
+    ensures most { IfOk result (λ x. x.0 ≤ most) }
+{
+    let (piece, rest) = next(pieces)?;
+    let number = read_numeral(piece, most)?;
+    Ok((number, rest))
+}
+
+/// A number of at most so much, in a byte.
+pub fn small_at(pieces: Pieces<'_>, most: u8) -> Result<(u8, Pieces<'_>), LineFault>
+    ensures { Gives (λ x. (x.0, left x.1)) result (next_piece (number_within most) (left pieces.entry)) }
+{
+    let (number, rest) = number_at(pieces, u64::from(most))?;
+    Ok((number as u8, rest))
+}
+
+/// A number of 32 bits.
+pub fn wide_at(pieces: Pieces<'_>) -> Result<(u32, Pieces<'_>), LineFault>
+    ensures { Gives (λ x. (x.0, left x.1)) result (next_piece (number_within most_of_32) (left pieces.entry)) }
+{
+    let (number, rest) = number_at(pieces, u64::from(u32::MAX))?;
+    Ok((number as u32, rest))
+}
+
+pub fn group_at(pieces: Pieces<'_>) -> Result<(u8, Pieces<'_>), LineFault>
+    ensures { Gives (λ x. (x.0, left x.1)) result (group_at (left pieces.entry)) }
+{
+    small_at(pieces, 63)
+}
+
+pub fn base_at(pieces: Pieces<'_>) -> Result<(u8, Pieces<'_>), LineFault>
+    ensures { Gives (λ x. (x.0, left x.1)) result (base_at (left pieces.entry)) }
+{
+    small_at(pieces, 127)
+}
+
+pub fn cluster_at(pieces: Pieces<'_>) -> Result<(u8, Pieces<'_>), LineFault>
+    ensures { Gives (λ x. (x.0, left x.1)) result (cluster_at (left pieces.entry)) }
+{
+    small_at(pieces, 15)
+}
+
+pub fn actor_at(pieces: Pieces<'_>) -> Result<(u8, Pieces<'_>), LineFault>
+    ensures { Gives (λ x. (x.0, left x.1)) result (actor_at (left pieces.entry)) }
+{
+    small_at(pieces, 15)
+}
+
+pub fn moment_at(pieces: Pieces<'_>) -> Result<(u64, Pieces<'_>), LineFault>
+    ensures { Gives (λ x. (x.0, left x.1)) result (moment_at (left pieces.entry)) }
+{
+    number_at(pieces, (1 << 40) - 1)
+}
+
+fn bound_in(piece: &[u8]) -> Result<Option<u8>, LineFault>
+    ensures { Gives (λ x. x) result (bound_within piece.now) }
+{
+    match piece {
+        b"-" => Ok(None),
+        _ => {
+            let cluster = read_numeral(piece, 15)?;
+            Ok(Some(cluster as u8))
+        }
+    }
+}
+
+pub fn bound_at(pieces: Pieces<'_>) -> Result<(Option<u8>, Pieces<'_>), LineFault>
+    ensures { Gives (λ x. (x.0, left x.1)) result (bound_at (left pieces.entry)) }
+{
+    let (piece, rest) = next(pieces)?;
+    let bound = bound_in(piece)?;
+    Ok((bound, rest))
+}
+
+pub fn bucket_at(pieces: Pieces<'_>) -> Result<(Bucket, Pieces<'_>), LineFault>
+    ensures { Gives (λ x. (x.0, left x.1)) result (bucket_at (left pieces.entry)) }
+{
+    let (piece, rest) = next(pieces)?;
+    let bucket = bucket_of(piece).ok_or(LineFault::Word)?;
+    Ok((bucket, rest))
+}
+
+pub fn end_at(pieces: Pieces<'_>) -> Result<(bool, Pieces<'_>), LineFault>
+    ensures { Gives (λ x. (x.0, left x.1)) result (end_at (left pieces.entry)) }
+{
+    let (piece, rest) = next(pieces)?;
+    let head = end_of(piece).ok_or(LineFault::Word)?;
+    Ok((head, rest))
+}

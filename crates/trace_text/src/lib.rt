@@ -1,0 +1,25 @@
+//! The lines of traces and runs, read and written. No call here takes memory.
+#![tactic(auto)]
+
+mod acts;
+mod answers;
+mod fields;
+pub mod laws;
+mod line_out;
+mod lines;
+mod numerals;
+mod pieces;
+mod runs;
+mod words;
+mod writing;
+
+pub use flat_policy::texts::{Given, LineFault, Power, ProgramLine, RunLine};
+pub use line_out::LineOut;
+pub use lines::read_step;
+pub use numerals::read_numeral;
+pub use pieces::piece;
+pub use runs::{read_program, read_run};
+pub use writing::{write_answer, write_bare, write_step};
+
+#[cfg(test)]
+mod tests;

@@ -1,0 +1,51 @@
+//! Numerals.
+
+ghost use Rattle.std.specs.Prelude.{◌≡◌, ◌≤◌, ◌+◌, ◌*◌, ℕ, IsTrue};
+ghost use Rattle.flat_policy.specs.Texts.Pieces.{number_within, is_digit, digit_value};
+ghost use Rattle.trace_text.specs.Reading.{Gives, within_64, digits_read};
+
+use flat_policy::texts::LineFault;
+
+/// A number and one more digit; `None` where it passes 64 bits.
+fn with_digit(number: Option<u64>, digit: u8) -> Option<u64>
+    requires { IsTrue (is_digit digit) }
+    ensures { (n : ℕ) → number ≡ within_64 n → result ≡ within_64 (n * 10 + digit_value digit) }
+{
+    let digit = u64::from(digit - b'0');
+    number?.checked_mul(10)?.checked_add(digit)
+}
+
+/// The number that digits write after a first one: no number where one of them is no digit, and
+/// `None` where it passes 64 bits.
+fn number_of(first: u8, others: &[u8]) -> Result<Option<u64>, LineFault>
+    requires { IsTrue (is_digit first) }
+    ensures { Gives (λ n. n) result (digits_read (digit_value first) others.now) }
+{
+    let mut number = Some(u64::from(first - b'0'));
+    for b in others {
+        if !b.is_ascii_digit() {
+            return Err(LineFault::Number);
+        }
+        number = with_digit(number, *b);
+    }
+    Ok(number)
+}
+
+/// The value of a numeral: `0`, or digits that begin with none of `0`.
+///
+/// Errors: `Number` exactly where the piece is no numeral, `Range` exactly where it is one whose
+/// value exceeds `most`.
+pub fn read_numeral(piece: &[u8], most: u64) -> Result<u64, LineFault>
+    ensures { result ≡ number_within most piece.now }
+{
+    let [first, others @ ..] = piece else {
+        return Err(LineFault::Number);
+    };
+    if !first.is_ascii_digit() || (*first == b'0' && !others.is_empty()) {
+        return Err(LineFault::Number);
+    }
+    match number_of(*first, others)? {
+        Some(number) if number <= most => Ok(number),
+        _ => Err(LineFault::Range),
+    }
+}
