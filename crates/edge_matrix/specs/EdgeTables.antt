@@ -1,0 +1,26 @@
+-- The edges of a setup as tables of eight rows and eight columns.
+use Rattle.std.specs.Prelude.{List, [], if◌then◌else◌, map, slice_index, slice_index_or, slice_set, ℕ}
+use Rattle.flat_policy.specs.Setup.{SetupParts, edge_weight, migrates, numbers_below, steal_mask}
+
+-- what an edge carries, by the cluster that it leaves and the cluster that it leads to: its weight, 1 where threads may move
+-- along it and 0 where not, and its mask
+pub record EdgeTables : Type 0 where
+  pub weights : List (List ℕ)
+  pub migrates : List (List ℕ)
+  pub steals : List (List ℕ)
+
+-- the table of a number for each pair
+unfoldable pub table_of : (ℕ → ℕ → ℕ) → List (List ℕ)
+table_of number = map (λ i. map (number i) (numbers_below 8)) (numbers_below 8)
+
+-- the number of a pair
+abbrev pub number_at : List (List ℕ) → ℕ → ℕ → ℕ
+number_at table i j = slice_index (slice_index_or table i []) j
+
+-- the edges of a setup
+abbrev pub edges_of : SetupParts → EdgeTables
+edges_of setup = record {
+  weights = table_of (edge_weight setup);
+  migrates = table_of (λ i j. if migrates setup i j then 1 else 0);
+  steals = table_of (steal_mask setup);
+}
