@@ -1,6 +1,11 @@
 pub mod Unpreceded
 pub mod Setup
 pub mod Ranges
+pub mod JournalParts
+pub mod IsSetup
+pub mod SetupInside
+pub mod BuildFaults
+pub mod RowParts
 pub mod Usage
 pub mod Queue
 pub mod WellFormed

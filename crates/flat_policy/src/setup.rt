@@ -1,15 +1,30 @@
-//! The setup.
+//! The setup: the clusters, the edges between them, the groups and the times.
+
+ghost use Rattle.std.specs.Prelude.{◌≡◌, ◌≤◌, ◌<◌, length, map, slice_get, sum_by};
+ghost use Rattle.flat_policy.specs.Setup.{actor_count, cluster_count, cluster_times, cpus_of, group_count, home_among, home_of, preferred_cluster, rate_of, times_for};
+ghost use Rattle.flat_policy.specs.Machine.{fits_act, fits_step};
+ghost use Rattle.flat_policy.specs.SetupInside.{parts_of_size};
+
+mod build;
+mod lists;
+mod ranges;
+
+use bucket_tables::Table;
+use sched_base::{Act, Bucket, Step};
+use std::alloc::AllocError;
+use std::marker::Model;
 
 /// The three times of a bucket in a cluster, in microseconds.
-#[derive(Clone, Copy, Drop)]
+#[derive(Clone, Copy, Debug, PartialEq, Eq)]
 pub struct Times {
     pub wcel: u32,
     pub warp: u32,
     pub quantum: u32,
 }
 
-/// A directed edge between two clusters.
-#[derive(Clone, Copy, Drop)]
+/// A directed edge between two clusters. Threads move along it where `migrate` holds, at the cost
+/// of the weight in microseconds; the bits of `steal` are the bucket indices that may be stolen.
+#[derive(Clone, Copy, Debug, PartialEq, Eq)]
 pub struct EdgeSpec {
     pub from: u8,
     pub to: u8,
@@ -19,7 +34,7 @@ pub struct EdgeSpec {
 }
 
 /// A field of the setup line.
-#[derive(Clone, Copy, Debug, Drop, PartialEq, Eq)]
+#[derive(Clone, Copy, Debug, PartialEq, Eq)]
 pub enum Field {
     Whole,
     Clusters,
@@ -28,4 +43,202 @@ pub enum Field {
     Threads,
     Times,
     Version,
+}
+
+/// Why a setup is not built.
+#[derive(Clone, Copy, Debug, PartialEq, Eq, thiserror::Error)]
+pub enum BuildError {
+    /// The first field out of its range.
+    #[error("{0:?} is out of range")]
+    Range(Field),
+    /// Want of memory.
+    #[error("out of memory")]
+    Memory,
+}
+
+impl From<AllocError> for BuildError {
+    ghost use Rattle.std.specs.Prelude.{◌≡◌};
+    ghost use Rattle.flat_policy.specs.declared.setup.BuildError.TheVariants.{Memory};
+
+    ghost from_gives = { λ _ e. e ≡ Memory };
+
+    fn from(_e: AllocError) -> BuildError {
+        BuildError::Memory
+    }
+}
+
+/// A cluster: how many processors it has, and how much work each does in 1000 microseconds.
+#[derive(Clone, Copy)]
+struct ClusterSize {
+    cpus: u8,
+    rate: u32,
+}
+
+/// A setup in its ranges. Contracts see its lists and numbers.
+#[derive(Drop)]
+pub struct Setup {
+    clusters: Vec<ClusterSize>,
+    actors: u8,
+    edges: Vec<EdgeSpec>,
+    groups: Vec<[u8; 6]>,
+    threads: u32,
+    times: Table<8, 18>,
+    version: u8,
+}
+
+impl Model for Setup {
+    ghost use Rattle.flat_policy.specs.Setup.{SetupParts};
+
+    ghost Value = { SetupParts };
+
+    ghost use Rattle.std.specs.Prelude.{◌≡◌, length};
+    ghost use Rattle.flat_policy.specs.Setup.{actor_count};
+    ghost use Rattle.flat_policy.specs.SetupInside.{IsInside, inside_parts};
+
+    ghost view = { inside_parts };
+
+    ghost invariant = { IsInside };
+}
+
+impl Setup {
+    /// The number of clusters, 1 to 8.
+    pub fn clusters(&self) -> u8
+        ensures { result ≡ cluster_count self.now }
+    {
+        self.clusters.len() as u8
+    }
+
+    /// The number of actors, 1 to 16.
+    pub fn actors(&self) -> u8
+        ensures { result ≡ actor_count self.now }
+    {
+        self.actors
+    }
+
+    /// The number of groups, 1 to 64.
+    pub fn groups(&self) -> u8
+        ensures { result ≡ group_count self.now }
+    {
+        self.groups.len() as u8
+    }
+
+    /// How many threads may live at once, 1 to 4096.
+    pub fn threads(&self) -> u32
+        ensures { result ≡ self.now.threads }
+    {
+        self.threads
+    }
+
+    /// The version, 1 or 2.
+    pub fn version(&self) -> u8
+        ensures { result ≡ self.now.version }
+    {
+        self.version
+    }
+
+    /// The number of edges, at most 56.
+    pub fn edge_count(&self) -> u8
+        ensures { result ≡ length self.now.edges }
+    {
+        self.edges.len() as u8
+    }
+
+    /// The number of processors of a cluster, 1 to 16.
+    pub fn cpus(&self, c: u8) -> u8
+        requires { c < cluster_count self.now }
+        ensures { result ≡ cpus_of self.now c }
+    {
+        self.clusters[c as usize].cpus
+    }
+
+    /// The work that a processor of a cluster does in 1000 microseconds, 100 to 1000.
+    pub fn rate(&self, c: u8) -> u32
+        requires { c < cluster_count self.now }
+        ensures { result ≡ rate_of self.now c }
+    {
+        self.clusters[c as usize].rate
+    }
+
+    /// The times of a bucket in a cluster, in microseconds.
+    pub fn times(&self, c: u8, b: Bucket) -> Times
+        requires { c < cluster_count self.now }
+        ensures { result ≡ times_for (cluster_times self.now c) b }
+    {
+        let row = c as usize;
+        let column = b.index() as usize;
+        Times {
+            wcel: self.times.get(row, column) as u32,
+            warp: self.times.get(row, column + 6) as u32,
+            quantum: self.times.get(row, column + 12) as u32,
+        }
+    }
+
+    /// The cluster of an actor. Actors are numbered through all clusters, those of cluster 0
+    /// first.
+    pub fn home(&self, actor: u8) -> u8
+        requires { actor < actor_count self.now }
+        ensures home { result ≡ home_of self.now actor }
+        ensures below { result < cluster_count self.now }
+    {
+        home_among(&self.clusters, actor)
+    }
+
+    /// The preferred cluster of a group for a bucket.
+    pub fn prefer(&self, group: u8, bucket: Bucket) -> u8
+        requires { group < group_count self.now }
+        ensures { result ≡ preferred_cluster self.now group bucket }
+    {
+        self.groups[group as usize][bucket.index() as usize]
+    }
+
+    /// The edge at place `k` of the setup's order, counted from 0.
+    pub fn edge_at(&self, k: u8) -> EdgeSpec
+        requires { k < length self.now.edges }
+        ensures { slice_get self.now.edges k ≡ Some result }
+    {
+        self.edges[k as usize]
+    }
+
+    /// Whether the moment of a step is below 2^40, its base at most 127, and its actor, clusters,
+    /// group and bound cluster below the setup's counts.
+    pub fn fits(&self, s: &Step) -> bool
+        ensures { result ≡ fits_step self.now s.now }
+    {
+        s.moment < 1 << 40 && s.actor < self.actors() && self.fits_act(s.act)
+    }
+
+    fn fits_act(&self, act: Act) -> bool
+        ensures { result ≡ fits_act self.now act }
+    {
+        match act {
+            Act::Make {
+                group, base, bound, ..
+            } => {
+                group < self.groups() && base <= 127 && bound.is_none_or(|c| c < self.clusters())
+            }
+            Act::Enter { cluster, .. }
+            | Act::Offer { cluster }
+            | Act::Look { cluster }
+            | Act::Off { cluster }
+            | Act::On { cluster } => cluster < self.clusters(),
+            _ => true,
+        }
+    }
+}
+
+/// The place of the cluster that has an actor, with the actors numbered through all clusters.
+fn home_among(clusters: &[ClusterSize], actor: u8) -> u8
+    requires some { actor < sum_by (λ k. k.cpus) clusters.now }
+    requires few { length clusters.now ≤ 8 }
+    ensures home { result ≡ home_among (map parts_of_size clusters.now) actor }
+    ensures below { result < length clusters.now }
+{
+    let mut left = actor;
+    for (c, size) in clusters.iter().enumerate() {
+        if left < size.cpus {
+            return c as u8;
+        }
+        left -= size.cpus;
+    }
+    unreachable!()
 }

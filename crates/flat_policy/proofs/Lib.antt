@@ -1,0 +1,8 @@
+mod SetupTimes
+mod SetupFields
+mod SetupEdges
+mod SetupRows
+mod SetupTimeRows
+mod SetupParts
+mod SetupBuilt
+mod SetupOrdinary
