@@ -6,3 +6,4 @@ mod SetupTimeRows
 mod SetupParts
 mod SetupBuilt
 mod SetupOrdinary
+pub mod SetupLaws

@@ -3,6 +3,7 @@ use Rattle.std.proofs.Common.{Bool, List, None, [], arith, false, get_or, length
 use Rattle.std.specs.Prelude.{◌==◌, nat_le, nat_lt}
 use Rattle.std.specs.List.{list_all}
 use Rattle.std.proofs.lemmas.Bool.{eq-eqb, leb-true, ltb-true}
+use Rattle.std.proofs.lemmas.List.Sums.{sum_by-cons}
 use Rattle.flat_policy.specs.IsSetup.{IsCluster, IsEdge}
 use Rattle.flat_policy.specs.Ranges.{Ranged, all_below, between, cluster_of_row, clusters_in_range, common_ranges, edge_of_row, edges_in_range, ends_differ, first_out, groups_in_range, is_cluster_row, is_edge_row, nth, ranged, threads_in_range}
 use Rattle.flat_policy.specs.declared.setup.Field.{Field}
@@ -88,7 +89,15 @@ pub record ClustersPass (clusters : List (List ℕ)) : Type 0 where
   pub least : 1 ≤ length clusters
   pub most : length clusters ≤ 8
   pub each : list_all is_cluster_row clusters ≡ true
-  pub actors : sum_by (λ row. nth row 0) clusters ≤ 16
+  pub actors_least : 1 ≤ sum_by (λ row. nth row 0) clusters
+  pub actors_most : sum_by (λ row. nth row 0) clusters ≤ 16
+
+some_actor : (clusters : List (List ℕ)) → 1 ≤ length clusters → list_all is_cluster_row clusters ≡ true →
+    1 ≤ sum_by (λ row. nth row 0) clusters
+some_actor [] least each = absurd (omega arith)
+some_actor (row ∷ rows) least each =
+    let first = cluster_row row (both (is_cluster_row row) (list_all is_cluster_row rows) each).0 in
+    omega (arith, first.cpus_least, sum_by-cons (λ (r : List ℕ). nth r 0) row rows)
 
 pub clusters_pass : (clusters : List (List ℕ)) → clusters_in_range clusters ≡ true → ClustersPass clusters
 clusters_pass clusters h =
@@ -96,7 +105,13 @@ clusters_pass clusters h =
     let p = both (between 1 8 (length clusters)) (list_all is_cluster_row clusters && nat_le actors 16) h in
     let q = both (list_all is_cluster_row clusters) (nat_le actors 16) p.1 in
     let count = between_true 1 8 (length clusters) p.0 in
-    record { least = count.0; most = count.1; each = q.0; actors = leb-true actors 16 q.1 }
+    record {
+      least = count.0;
+      most = count.1;
+      each = q.0;
+      actors_least = some_actor clusters count.0 q.0;
+      actors_most = leb-true actors 16 q.1;
+    }
 
 -- the edges
 pub record EdgesPass (count : ℕ) (edges : List (List ℕ)) : Type 0 where

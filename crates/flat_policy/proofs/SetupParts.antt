@@ -46,7 +46,8 @@ is_setup clusters edges groups threads times version common timed versioned sixe
       clusters_least = omega (arith, count, k.least);
       clusters_most = omega (arith, count, k.most);
       clusters = all_clusters clusters k.each;
-      actors_most = omega (arith, sum_cpus clusters, k.actors);
+      actors_least = omega (arith, sum_cpus clusters, k.actors_least);
+      actors_most = omega (arith, sum_cpus clusters, k.actors_most);
       edges_most = omega (arith, length-map edges edge_of_row, e.most);
       edges = rw count (all_edges (length clusters) edges e.each);
       ends = all_ends edges e.ends;

@@ -52,6 +52,7 @@ pub record IsSetup (s : SetupParts) : Type 0 where
   pub clusters_least : 1 ≤ cluster_count s
   pub clusters_most : cluster_count s ≤ 8
   pub clusters : All IsCluster s.clusters
+  pub actors_least : 1 ≤ actor_count s
   pub actors_most : actor_count s ≤ 16
   pub edges_most : length s.edges ≤ 56
   pub edges : All (IsEdge (cluster_count s)) s.edges

@@ -3,6 +3,7 @@
 ghost use Rattle.std.specs.Prelude.{◌≡◌, ◌≤◌, ◌<◌, length, map, slice_get, sum_by};
 ghost use Rattle.flat_policy.specs.Setup.{actor_count, cluster_count, cluster_times, cpus_of, group_count, home_among, home_of, preferred_cluster, rate_of, times_for};
 ghost use Rattle.flat_policy.specs.Machine.{fits_act, fits_step};
+ghost use Rattle.flat_policy.specs.IsSetup.{IsEdge, IsSetup, IsTimes};
 ghost use Rattle.flat_policy.specs.SetupInside.{parts_of_size};
 
 mod build;
@@ -101,44 +102,62 @@ impl Model for Setup {
 }
 
 impl Setup {
+    /// Does nothing. It tells a proof what every setup keeps: all its parts are in their ranges.
+    pub fn keeps_ranges(&self)
+        ensures { IsSetup self.now }
+    {
+        let _threads = self.threads;
+    }
+
     /// The number of clusters, 1 to 8.
     pub fn clusters(&self) -> u8
-        ensures { result ≡ cluster_count self.now }
+        ensures count { result ≡ cluster_count self.now }
+        ensures least { 1 ≤ result }
+        ensures most { result ≤ 8 }
     {
         self.clusters.len() as u8
     }
 
     /// The number of actors, 1 to 16.
     pub fn actors(&self) -> u8
-        ensures { result ≡ actor_count self.now }
+        ensures count { result ≡ actor_count self.now }
+        ensures least { 1 ≤ result }
+        ensures most { result ≤ 16 }
     {
         self.actors
     }
 
     /// The number of groups, 1 to 64.
     pub fn groups(&self) -> u8
-        ensures { result ≡ group_count self.now }
+        ensures count { result ≡ group_count self.now }
+        ensures least { 1 ≤ result }
+        ensures most { result ≤ 64 }
     {
         self.groups.len() as u8
     }
 
     /// How many threads may live at once, 1 to 4096.
     pub fn threads(&self) -> u32
-        ensures { result ≡ self.now.threads }
+        ensures threads { result ≡ self.now.threads }
+        ensures least { 1 ≤ result }
+        ensures most { result ≤ 4096 }
     {
         self.threads
     }
 
     /// The version, 1 or 2.
     pub fn version(&self) -> u8
-        ensures { result ≡ self.now.version }
+        ensures version { result ≡ self.now.version }
+        ensures least { 1 ≤ result }
+        ensures most { result ≤ 2 }
     {
         self.version
     }
 
     /// The number of edges, at most 56.
     pub fn edge_count(&self) -> u8
-        ensures { result ≡ length self.now.edges }
+        ensures count { result ≡ length self.now.edges }
+        ensures most { result ≤ 56 }
     {
         self.edges.len() as u8
     }
@@ -146,7 +165,9 @@ impl Setup {
     /// The number of processors of a cluster, 1 to 16.
     pub fn cpus(&self, c: u8) -> u8
         requires { c < cluster_count self.now }
-        ensures { result ≡ cpus_of self.now c }
+        ensures cpus { result ≡ cpus_of self.now c }
+        ensures least { 1 ≤ result }
+        ensures most { result ≤ 16 }
     {
         self.clusters[c as usize].cpus
     }
@@ -154,7 +175,9 @@ impl Setup {
     /// The work that a processor of a cluster does in 1000 microseconds, 100 to 1000.
     pub fn rate(&self, c: u8) -> u32
         requires { c < cluster_count self.now }
-        ensures { result ≡ rate_of self.now c }
+        ensures rate { result ≡ rate_of self.now c }
+        ensures least { 100 ≤ result }
+        ensures most { result ≤ 1000 }
     {
         self.clusters[c as usize].rate
     }
@@ -162,7 +185,8 @@ impl Setup {
     /// The times of a bucket in a cluster, in microseconds.
     pub fn times(&self, c: u8, b: Bucket) -> Times
         requires { c < cluster_count self.now }
-        ensures { result ≡ times_for (cluster_times self.now c) b }
+        ensures times { result ≡ times_for (cluster_times self.now c) b }
+        ensures ranges { IsTimes result }
     {
         let row = c as usize;
         let column = b.index() as usize;
@@ -186,7 +210,8 @@ impl Setup {
     /// The preferred cluster of a group for a bucket.
     pub fn prefer(&self, group: u8, bucket: Bucket) -> u8
         requires { group < group_count self.now }
-        ensures { result ≡ preferred_cluster self.now group bucket }
+        ensures cluster { result ≡ preferred_cluster self.now group bucket }
+        ensures below { result < cluster_count self.now }
     {
         self.groups[group as usize][bucket.index() as usize]
     }
@@ -194,7 +219,8 @@ impl Setup {
     /// The edge at place `k` of the setup's order, counted from 0.
     pub fn edge_at(&self, k: u8) -> EdgeSpec
         requires { k < length self.now.edges }
-        ensures { slice_get self.now.edges k ≡ Some result }
+        ensures edge { slice_get self.now.edges k ≡ Some result }
+        ensures ranges { IsEdge (cluster_count self.now) result }
     {
         self.edges[k as usize]
     }
