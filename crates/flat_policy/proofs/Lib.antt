@@ -1,9 +1,47 @@
-mod SetupTimes
-mod SetupFields
+mod SetupBuilt
 mod SetupEdges
+mod SetupFields
+mod SetupOrdinary
+mod SetupParts
 mod SetupRows
 mod SetupTimeRows
-mod SetupParts
-mod SetupBuilt
-mod SetupOrdinary
+mod SetupTimes
+pub mod Accepted
+pub mod After
+pub mod Aims
+pub mod Ascending
+pub mod Buckets
+pub mod ByMembers
+pub mod ByUnit
+pub mod Choice
+pub mod Chosen
+pub mod ChosenLane
+pub mod Enters
+pub mod Entries
+pub mod Greatest
+pub mod HandMoves
+pub mod InLane
+pub mod Kept
+pub mod KeptLanes
+pub mod Leaves
+pub mod Lexical
+pub mod Members
+pub mod Moved
+pub mod Offers
+pub mod Orders
+pub mod Parts
+pub mod PickIsOne
+pub mod Picks
+pub mod Placed
+pub mod Precedes
+pub mod Refreshed
+pub mod Refreshes
+pub mod Runs
 pub mod SetupLaws
+pub mod SoundParts
+pub mod StepsKeep
+pub mod Turns
+pub mod Units
+pub mod Wholes
+pub mod Windows
+pub mod YardMoves

@@ -3,3 +3,4 @@ pub mod Merging
 pub mod OneThread
 pub mod Loads
 pub mod Texts
+pub mod Warps

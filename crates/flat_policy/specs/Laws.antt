@@ -1,1 +1,11 @@
 -- Laws that show that the definitions say what is meant, as statements.
+pub mod Choice
+pub mod Steps
+pub mod Picks
+pub mod Kept
+pub mod Offers
+pub mod Aims
+pub mod Sound
+pub mod Counts
+pub mod Orders
+pub mod Units

@@ -37,52 +37,41 @@ pub record Says (l : Line) (told : Answer) (moved : Option Facts) : Type 0 where
 abbrev pub NoMark : Line → Type 0
 NoMark l = l.mark ≡ None
 
--- a line says what an event comes to, and the queue afterwards is the event's
-pub record Comes (l : Line) (e : Event) (next : Flat) : Type 0 where
-  pub answer : l.entry.answer ≡ e.answer
-  pub thread : l.entry.thread ≡ e.thread
-  pub flat : next ≡ e.flat
+-- a line says what an event comes to
+abbrev pub Tells : Line → Event → Type 0
+Tells l e = Says l e.answer e.thread
 
 -- a thread enters: there is room, and it may enter
-abbrev pub Enters : SetupParts → ℕ → Flat → Line → Bool → Flat → Option Facts → Type 0
-Enters setup c s l head next None = ⊥
-Enters setup c s l head next (Some t) =
-    (length s.entries < 4096) × MayEnter setup t c × Comes l (enter_event setup c t head (moment_of l) s) next
+abbrev pub Enters : SetupParts → ℕ → Flat → Line → Bool → Option Facts → Type 0
+Enters setup c s l head None = ⊥
+Enters setup c s l head (Some t) =
+    (length s.entries < 4096) × MayEnter setup t c × Tells l (enter_event setup c t head (moment_of l) s)
 
 -- a named entry is pulled out
-abbrev pub Pulls : Flat → Line → Flat → Option Queued → Type 0
-Pulls s l next None = ⊥
-Pulls s l next (Some e) = Comes l (pull_event e (moment_of l) s) next
+abbrev pub Pulls : Flat → Line → Option Queued → Type 0
+Pulls s l None = ⊥
+Pulls s l (Some e) = Tells l (pull_event e (moment_of l) s)
 
--- what each line of a cluster does there; the other lines have no place at a cluster
-abbrev pub ClusterCase : SetupParts → ℕ → Flat → Line → Flat → Act → Type 0
-ClusterCase setup c s l next (acts.Make name group bucket base bound) = ⊥
-ClusterCase setup c s l next (acts.Enter at head) = (at ≡ c) × NoMark l × Enters setup c s l head next l.entry.thread
-ClusterCase setup c s l next acts.Select =
-    (home_of setup (actor_of l) ≡ c) × NoMark l × Comes l (select_event setup c (moment_of l) s) next
-ClusterCase setup c s l next (acts.Offer at) =
+-- what each line of a cluster says there; the other lines have no place at a cluster
+abbrev pub ClusterCase : SetupParts → ℕ → Flat → Line → Act → Type 0
+ClusterCase setup c s l (acts.Make name group bucket base bound) = ⊥
+ClusterCase setup c s l (acts.Enter at head) = (at ≡ c) × NoMark l × Enters setup c s l head l.entry.thread
+ClusterCase setup c s l acts.Select = (home_of setup (actor_of l) ≡ c) × NoMark l × Tells l (select_event setup c (moment_of l) s)
+ClusterCase setup c s l (acts.Offer at) =
     (at ≡ c) × (home_of setup (actor_of l) ≢ c) × NoMark l
-    × Comes l (offer_event setup c (home_of setup (actor_of l)) (moment_of l) s) next
-ClusterCase setup c s l next (acts.Pull name) =
-    (home_of setup (actor_of l) ≡ c) × NoMark l × Pulls s l next (named_entry s name)
-ClusterCase setup c s l next (acts.Look at) =
-    (at ≡ c) × (b : Bucket) × (l.mark ≡ Some (index b)) × Comes l (look_event setup c b (moment_of l) s) next
-ClusterCase setup c s l next acts.Aim = ⊥
-ClusterCase setup c s l next (acts.Ran us) = ⊥
-ClusterCase setup c s l next acts.Sleep = ⊥
-ClusterCase setup c s l next (acts.Wake name) = ⊥
-ClusterCase setup c s l next acts.End = ⊥
-ClusterCase setup c s l next acts.Blocked = ⊥
-ClusterCase setup c s l next acts.Refresh =
-    (home_of setup (actor_of l) ≡ c) × NoMark l × Comes l (refresh_event setup (moment_of l) s) next
-ClusterCase setup c s l next (acts.Off at) = (at ≡ c) × NoMark l × Comes l (power_event false (moment_of l) s) next
-ClusterCase setup c s l next (acts.On at) = (at ≡ c) × NoMark l × Comes l (power_event true (moment_of l) s) next
-
--- a line leads the queue of a cluster from one state to the next, at a moment that is not before its last
-pub record CStep (setup : SetupParts) (c : ℕ) (s : Flat) (l : Line) (next : Flat) : Type 0 where
-  pub in_range : moment_of l < 2 ^ 40
-  pub not_before : s.last ≤ moment_of l
-  pub happens : ClusterCase setup c s l next (act_of l)
+    × Tells l (offer_event setup c (home_of setup (actor_of l)) (moment_of l) s)
+ClusterCase setup c s l (acts.Pull name) = (home_of setup (actor_of l) ≡ c) × NoMark l × Pulls s l (named_entry s name)
+ClusterCase setup c s l (acts.Look at) =
+    (at ≡ c) × (b : Bucket) × (l.mark ≡ Some (index b)) × Tells l (look_event setup c b (moment_of l) s)
+ClusterCase setup c s l acts.Aim = ⊥
+ClusterCase setup c s l (acts.Ran us) = ⊥
+ClusterCase setup c s l acts.Sleep = ⊥
+ClusterCase setup c s l (acts.Wake name) = ⊥
+ClusterCase setup c s l acts.End = ⊥
+ClusterCase setup c s l acts.Blocked = ⊥
+ClusterCase setup c s l acts.Refresh = (home_of setup (actor_of l) ≡ c) × NoMark l × Tells l (refresh_event setup (moment_of l) s)
+ClusterCase setup c s l (acts.Off at) = (at ≡ c) × NoMark l × Tells l (power_event false (moment_of l) s)
+ClusterCase setup c s l (acts.On at) = (at ≡ c) × NoMark l × Tells l (power_event true (moment_of l) s)
 
 -- the queue that a line of a cluster leads to
 abbrev pub flat_after_entering : SetupParts → ℕ → Flat → Line → Bool → Option Facts → Flat
@@ -110,10 +99,18 @@ flat_after setup c s l acts.Refresh = (refresh_event setup (moment_of l) s).flat
 flat_after setup c s l (acts.Off at) = (power_event false (moment_of l) s).flat
 flat_after setup c s l (acts.On at) = (power_event true (moment_of l) s).flat
 
+-- a line leads the queue of a cluster from one state to the next, at a moment that is not before its last
+pub record CStep (setup : SetupParts) (c : ℕ) (s : Flat) (l : Line) (next : Flat) : Type 0 where
+  pub in_range : moment_of l < 2 ^ 40
+  pub not_before : s.last ≤ moment_of l
+  pub happens : ClusterCase setup c s l (act_of l)
+  pub leads : next ≡ flat_after setup c s l (act_of l)
+
 -- lines lead a queue from one state to another
 abbrev pub CRunFrom : SetupParts → ℕ → Flat → List Line → Flat → Type 0
 CRunFrom setup c s [] end = end ≡ s
-CRunFrom setup c s (l ∷ ls) end = (next : Flat) × CStep setup c s l next × CRunFrom setup c next ls end
+CRunFrom setup c s (l ∷ ls) end =
+    CStep setup c s l (flat_after setup c s l (act_of l)) × CRunFrom setup c (flat_after setup c s l (act_of l)) ls end
 
 -- lines lead the empty queue of a cluster to a state
 abbrev pub CRun : SetupParts → ℕ → List Line → Flat → Type 0
@@ -147,72 +144,97 @@ first_sleeper y = unpreceded wakes_before y.blocked
 abbrev pub due_after : ℕ → ℕ → ℕ
 due_after now span = min (now + span) (2 ^ 40 - 1)
 
--- a thread goes to sleep
-abbrev pub SleepsFor : RunYard → Line → RunYard → Option Facts → Option ℕ → Type 0
-SleepsFor y l next None mark = ⊥
-SleepsFor y l next (Some t) None = ⊥
-SleepsFor y l next (Some t) (Some span) =
-    Says l answers.Yes (Some t)
-    × (next ≡ record y { blocked = y.blocked ++ record { facts = t; since = moment_of l; due = due_after (moment_of l) span } ∷ []; last = moment_of l })
+-- the yard after a thread goes to sleep
+abbrev pub yard_after_sleep : RunYard → ℕ → Option Facts → Option ℕ → RunYard
+yard_after_sleep y now None mark = y
+yard_after_sleep y now (Some t) None = y
+yard_after_sleep y now (Some t) (Some span) =
+    record y { blocked = y.blocked ++ record { facts = t; since = now; due = due_after now span } ∷ []; last = now }
+
+-- the yard after a thread ends
+abbrev pub yard_after_end : RunYard → ℕ → Option Facts → RunYard
+yard_after_end y now None = y
+yard_after_end y now (Some t) = record y { ended = y.ended ++ t.name ∷ []; last = now }
+
+-- the yard that a line leads to
+abbrev pub yard_after : RunYard → Line → Act → RunYard
+yard_after y l (acts.Make name group bucket base bound) = record y { made = y.made ++ name ∷ []; last = moment_of l }
+yard_after y l (acts.Enter at head) = y
+yard_after y l acts.Select = y
+yard_after y l (acts.Offer at) = y
+yard_after y l (acts.Pull name) = y
+yard_after y l (acts.Look at) = y
+yard_after y l acts.Aim = y
+yard_after y l (acts.Ran us) = y
+yard_after y l acts.Sleep = yard_after_sleep y (moment_of l) l.entry.thread l.mark
+yard_after y l (acts.Wake name) =
+    record y { blocked = filter (λ (v : DueSleeper). not (v.facts.name == name)) y.blocked; last = moment_of l }
+yard_after y l acts.End = yard_after_end y (moment_of l) l.entry.thread
+yard_after y l acts.Blocked = record y { last = moment_of l }
+yard_after y l acts.Refresh = y
+yard_after y l (acts.Off at) = y
+yard_after y l (acts.On at) = y
+
+-- a thread goes to sleep for a span, which is the mark
+abbrev pub SleepsFor : Line → Option Facts → Option ℕ → Type 0
+SleepsFor l None mark = ⊥
+SleepsFor l (Some t) None = ⊥
+SleepsFor l (Some t) (Some span) = Says l answers.Yes (Some t)
 
 -- the thread that is first is woken, not before it is due
-abbrev pub Wakes : RunYard → Line → RunYard → ℕ → Option DueSleeper → Type 0
-Wakes y l next name None = ⊥
-Wakes y l next name (Some w) =
-    (name ≡ w.facts.name) × (w.due ≤ moment_of l)
-    × Says l answers.Yes (Some (rested (moment_of l - w.since) w.facts))
-    × (next ≡ record y { blocked = filter (λ (v : DueSleeper). not (v.facts.name == name)) y.blocked; last = moment_of l })
+abbrev pub Wakes : Line → ℕ → Option DueSleeper → Type 0
+Wakes l name None = ⊥
+Wakes l name (Some w) =
+    (name ≡ w.facts.name) × (w.due ≤ moment_of l) × Says l answers.Yes (Some (rested (moment_of l - w.since) w.facts))
 
 -- a thread ends
-abbrev pub Ends : RunYard → Line → RunYard → Option Facts → Type 0
-Ends y l next None = ⊥
-Ends y l next (Some t) =
-    Says l answers.Yes (Some t) × (next ≡ record y { ended = y.ended ++ t.name ∷ []; last = moment_of l })
+abbrev pub Ends : Line → Option Facts → Type 0
+Ends l None = ⊥
+Ends l (Some t) = Says l answers.Yes (Some t)
 
 -- a thread is made: the setup fits the step, the name is unused, and there is room
-abbrev pub Makes : SetupParts → RunYard → Line → RunYard → ℕ → ℕ → Bucket → ℕ → Option ℕ → Type 0
-Makes setup y l next name group bucket base bound =
+abbrev pub Makes : SetupParts → RunYard → Line → ℕ → ℕ → Bucket → ℕ → Option ℕ → Type 0
+Makes setup y l name group bucket base bound =
     IsTrue (fits_step setup l.entry.step)
     × (list_any (λ n. n == name) y.made ≡ false)
     × (length y.made - length y.ended < setup.threads)
     × Says l answers.Yes (Some (made_thread setup name group bucket base bound (moment_of l)))
-    × (next ≡ record y { made = y.made ++ name ∷ []; last = moment_of l })
 
 -- the blocked threads are counted, where none is due
-abbrev pub Counts : RunYard → Line → RunYard → Type 0
-Counts y l next =
-    (list_any (λ (w : DueSleeper). nat_le w.due (moment_of l)) y.blocked ≡ false)
-    × Says l (answers.Left (length y.blocked)) None
-    × (next ≡ record y { last = moment_of l })
+abbrev pub Counts : RunYard → Line → Type 0
+Counts y l =
+    (list_any (λ (w : DueSleeper). nat_le w.due (moment_of l)) y.blocked ≡ false) × Says l (answers.Left (length y.blocked)) None
 
--- what each line of the yard does there; the other lines have no place in the yard
-abbrev pub YardCase : SetupParts → RunYard → Line → RunYard → Act → Type 0
-YardCase setup y l next (acts.Make name group bucket base bound) = NoMark l × Makes setup y l next name group bucket base bound
-YardCase setup y l next (acts.Enter at head) = ⊥
-YardCase setup y l next acts.Select = ⊥
-YardCase setup y l next (acts.Offer at) = ⊥
-YardCase setup y l next (acts.Pull name) = ⊥
-YardCase setup y l next (acts.Look at) = ⊥
-YardCase setup y l next acts.Aim = ⊥
-YardCase setup y l next (acts.Ran us) = ⊥
-YardCase setup y l next acts.Sleep = SleepsFor y l next l.entry.thread l.mark
-YardCase setup y l next (acts.Wake name) = NoMark l × Wakes y l next name (first_sleeper y)
-YardCase setup y l next acts.End = NoMark l × Ends y l next l.entry.thread
-YardCase setup y l next acts.Blocked = NoMark l × Counts y l next
-YardCase setup y l next acts.Refresh = ⊥
-YardCase setup y l next (acts.Off at) = ⊥
-YardCase setup y l next (acts.On at) = ⊥
+-- what each line of the yard says there; the other lines have no place in the yard
+abbrev pub YardCase : SetupParts → RunYard → Line → Act → Type 0
+YardCase setup y l (acts.Make name group bucket base bound) = NoMark l × Makes setup y l name group bucket base bound
+YardCase setup y l (acts.Enter at head) = ⊥
+YardCase setup y l acts.Select = ⊥
+YardCase setup y l (acts.Offer at) = ⊥
+YardCase setup y l (acts.Pull name) = ⊥
+YardCase setup y l (acts.Look at) = ⊥
+YardCase setup y l acts.Aim = ⊥
+YardCase setup y l (acts.Ran us) = ⊥
+YardCase setup y l acts.Sleep = SleepsFor l l.entry.thread l.mark
+YardCase setup y l (acts.Wake name) = NoMark l × Wakes l name (first_sleeper y)
+YardCase setup y l acts.End = NoMark l × Ends l l.entry.thread
+YardCase setup y l acts.Blocked = NoMark l × Counts y l
+YardCase setup y l acts.Refresh = ⊥
+YardCase setup y l (acts.Off at) = ⊥
+YardCase setup y l (acts.On at) = ⊥
 
 -- a line leads the yard of a run from one state to the next, at a moment that is not before its last
 pub record YStep (setup : SetupParts) (y : RunYard) (l : Line) (next : RunYard) : Type 0 where
   pub in_range : moment_of l < 2 ^ 40
   pub not_before : y.last ≤ moment_of l
-  pub happens : YardCase setup y l next (act_of l)
+  pub happens : YardCase setup y l (act_of l)
+  pub leads : next ≡ yard_after y l (act_of l)
 
 -- lines lead the yard from one state to another
 abbrev pub YRunFrom : SetupParts → RunYard → List Line → RunYard → Type 0
 YRunFrom setup y [] end = end ≡ y
-YRunFrom setup y (l ∷ ls) end = (next : RunYard) × YStep setup y l next × YRunFrom setup next ls end
+YRunFrom setup y (l ∷ ls) end =
+    YStep setup y l (yard_after y l (act_of l)) × YRunFrom setup (yard_after y l (act_of l)) ls end
 
 -- lines lead the empty yard to a state
 abbrev pub YRun : SetupParts → List Line → RunYard → Type 0

@@ -6,6 +6,7 @@ use Rattle.sched_base.specs.Bucket.{index}
 use Rattle.sched_base.specs.declared.Bucket.{Bucket}
 use Rattle.sched_base.specs.declared.Bucket.TheVariants.{Bg, Df, Fg, Ini, Ut}
 use Rattle.sched_base.specs.declared.Facts.{Facts}
+pub use Rattle.bucket_tables.specs.Lanes.{bucket_lane as lane, lanes_in_order as timeshare_lanes}
 use Rattle.bucket_tables.specs.declared.Lane.{Lane}
 use Rattle.flat_policy.specs.declared.lanes.Starved.{Starved}
 use Rattle.flat_policy.specs.declared.lanes.Starved.TheVariants.{No}
@@ -43,16 +44,6 @@ pub record Flat : Type 0 where
   pub next_arrival : ℕ
   pub next_turn : ℕ
   pub on : Bool
-
--- the lane of a bucket, bound or unbound
-abbrev pub lane : Bucket → Bool → Lane
-lane b bound = record { bucket = b; bound = bound }
-
--- the ten timeshare lanes, by bucket index, bound first
-abbrev pub timeshare_lanes : List Lane
-timeshare_lanes =
-    lane Fg true ∷ lane Fg false ∷ lane Ini true ∷ lane Ini false ∷ lane Df true ∷ lane Df false
-    ∷ lane Ut true ∷ lane Ut false ∷ lane Bg true ∷ lane Bg false ∷ []
 
 -- a lane as a new cluster has it
 abbrev pub new_window : Lane → LaneWindow

@@ -1,7 +1,6 @@
 -- The one that no other precedes: how every choice of the policy is said.
 use Rattle.std.specs.List.{list_any}
 use Rattle.std.specs.Prelude.{All, Bool, Contains, List, Option, false, find, not, ◌≡◌}
-use Rattle.serde_json.specs.Data.{member}
 
 -- whether some member of the list precedes x
 abbrev pub is_preceded : {X : Type 0} → (X → X → Bool) → List X → X → Bool

@@ -28,9 +28,9 @@ TurnsDiffer None other = Unit {0}
 TurnsDiffer (Some turn) None = Unit {0}
 TurnsDiffer (Some turn) (Some other) = turn ≢ other
 
--- what every queue of a setup with so many groups keeps
-pub record WellFormed (groups : ℕ) (s : Flat) : Type 0 where
-  pub few : length s.entries ≤ 4096
+-- what every queue of a setup with so many groups keeps, and that it has no more entries than a limit
+pub record WellFormedWithin (limit groups : ℕ) (s : Flat) : Type 0 where
+  pub few : length s.entries ≤ limit
   pub arrivals_rise : ArrivalsRise s.entries
   pub arrivals_below : EachQueued (λ (e : Queued). e.arrival < s.next_arrival) s.entries
   pub order_numbers : EachQueued HasOrderNumber s.entries
@@ -41,3 +41,7 @@ pub record WellFormed (groups : ℕ) (s : Flat) : Type 0 where
   pub spans_length : length s.spans ≡ groups * 6
   pub turns_length : length s.turns ≡ groups * 6
   pub ten_lanes : map (λ (l : LaneWindow). l.lane) s.lanes ≡ timeshare_lanes
+
+-- no queue has more than 4096 entries
+abbrev pub WellFormed : ℕ → Flat → Type 0
+WellFormed groups s = WellFormedWithin 4096 groups s

@@ -76,13 +76,21 @@ stands_higher x y = nat_lt (index x.bucket) (index y.bucket) || ((index x.bucket
 abbrev pub due_before : LaneWindow → LaneWindow → Bool
 due_before x y = nat_lt x.deadline y.deadline || ((x.deadline == y.deadline) && stands_higher x.lane y.lane)
 
+-- of some lanes, the one that is due first
+abbrev pub earliest_of : List LaneWindow → Option LaneWindow
+earliest_of filled = unpreceded due_before filled
+
 -- the timeshare lane with entries that is due first
 abbrev pub earliest : Flat → Option LaneWindow
-earliest s = unpreceded due_before (filled_lanes s)
+earliest s = earliest_of (filled_lanes s)
+
+-- of some lanes, those whose bucket is higher than that of a lane
+abbrev pub higher_of : List LaneWindow → LaneWindow → List LaneWindow
+higher_of filled e = filter (λ (l : LaneWindow). nat_lt (index l.lane.bucket) (index e.lane.bucket)) filled
 
 -- the lanes with entries whose bucket is higher than that of a lane
 abbrev pub higher_lanes : Flat → LaneWindow → List LaneWindow
-higher_lanes s e = filter (λ (l : LaneWindow). nat_lt (index l.lane.bucket) (index e.lane.bucket)) (filled_lanes s)
+higher_lanes s e = higher_of (filled_lanes s) e
 
 -- a warp that is not spent
 abbrev pub unspent : Warp → Bool
@@ -94,9 +102,13 @@ unspent Spent = false
 abbrev pub may_pass : List Times → LaneWindow → Bool
 may_pass ts l = not ((times_for ts l.lane.bucket).warp == 0) && unspent l.warp
 
--- the highest lane that may pass e
+-- of some lanes, the highest that may pass e
+abbrev pub passing_of : List Times → List LaneWindow → LaneWindow → Option LaneWindow
+passing_of ts filled e = unpreceded (λ (x y : LaneWindow). stands_higher x.lane y.lane) (filter (may_pass ts) (higher_of filled e))
+
+-- the highest lane with entries that may pass e
 abbrev pub passing : List Times → Flat → LaneWindow → Option LaneWindow
-passing ts s e = unpreceded (λ (x y : LaneWindow). stands_higher x.lane y.lane) (filter (may_pass ts) (higher_lanes s e))
+passing ts s e = passing_of ts (filled_lanes s) e
 
 -- a choice: the lane, and how it came to be chosen; a UI lane has no kind
 pub record Choice : Type 0 where
@@ -112,12 +124,19 @@ abbrev pub some_higher : List LaneWindow → Bool
 some_higher [] = false
 some_higher (l ∷ ls) = true
 
+abbrev pub choice_against : Option LaneWindow → List LaneWindow → LaneWindow → Choice
+choice_against (Some l) filled e = record { lane = l.lane; kind = Some Pass }
+choice_against None filled e = chosen_behind (some_higher (higher_of filled e)) e
+
 abbrev pub chosen_against : Option LaneWindow → Flat → LaneWindow → Choice
-chosen_against (Some l) s e = record { lane = l.lane; kind = Some Pass }
-chosen_against None s e = chosen_behind (some_higher (higher_lanes s e)) e
+chosen_against l s e = choice_against l (filled_lanes s) e
+
+-- the choice among some lanes, which are those with entries
+abbrev pub chosen_of : List Times → List LaneWindow → Option Choice
+chosen_of ts filled = option_map (λ (e : LaneWindow). choice_against (passing_of ts filled e) filled e) (earliest_of filled)
 
 abbrev pub chosen_by_deadline : List Times → Flat → Option Choice
-chosen_by_deadline ts s = option_map (λ (e : LaneWindow). chosen_against (passing ts s e) s e) (earliest s)
+chosen_by_deadline ts s = chosen_of ts (filled_lanes s)
 
 -- the choice of an expired queue; none where it has no entries
 abbrev pub chosen_under : Option Lane → List Times → Flat → Option Choice

@@ -1,14 +1,17 @@
 -- The run of one thread, with a sleep, as one history: the log of its actor, and the journals of its places.
-use Rattle.std.specs.Prelude.{List, None, Option, Some, [], codes, false, length, map, take, ℕ, ◌∷◌, ◌≡◌}
+use Rattle.std.specs.Prelude.{List, None, Option, Some, [], codes, false, map, take, ℕ, ◌∷◌, ◌≡◌}
+use Rattle.sched_base.specs.Facts.{fresh}
 use Rattle.sched_base.specs.declared.Act.{Act}
 use Rattle.sched_base.specs.declared.Bucket.TheVariants.{Fg}
 use Rattle.sched_base.specs.declared.Entry.{Entry}
+use Rattle.sched_base.specs.declared.Facts.{Facts}
 use Rattle.flat_policy.specs.declared.journal.Line.{Line}
+use Rattle.flat_policy.specs.ClusterSteps.{enter_event, select_event}
 use Rattle.flat_policy.specs.Interleaving.{Interleaves, lines_at_cluster, lines_in_yard}
 use Rattle.flat_policy.specs.Machine.{GRun, empty_game, replies, states_after}
 use Rattle.flat_policy.specs.Own.{Own}
-use Rattle.flat_policy.specs.Places.{CRun, RunYard, YRun}
-use Rattle.flat_policy.specs.Queue.{Flat}
+use Rattle.flat_policy.specs.Places.{CRun, YRun}
+use Rattle.flat_policy.specs.Queue.{Flat, empty_flat}
 use Rattle.flat_policy.specs.Rows.Run.{Replies, Said, one_cluster, row_line}
 use Rattle.flat_policy.specs.Texts.Streams.{RunText}
 use Rattle.flat_policy.specs.Worker.{Program, RunParts, Worked}
@@ -64,7 +67,7 @@ one_history = replies one_cluster (empty_game one_cluster) (map (λ (l : Said). 
 abbrev pub one_log : List Line
 one_log = map line_here one_history
 
--- its lines at the cluster, and in the yard
+-- its journals: its lines at the cluster, and in the yard
 abbrev pub one_journal : List Line
 one_journal = lines_at_cluster [] 0 one_log
 
@@ -87,12 +90,32 @@ OneThreadIsOwn = Own one_cluster 0 one_log
 abbrev pub OneThreadIsWorked : Type 0
 OneThreadIsWorked = Worked one_run 0 one_log
 
--- the journals lead the cluster and the yard to a state
-abbrev pub OneThreadInCluster : Type 0
-OneThreadInCluster = (end : Flat) × CRun one_cluster 0 one_journal end × (length end.entries ≡ 0)
+-- the first two lines at the cluster: the fresh thread enters, and is picked
+abbrev pub fresh_thread : Facts
+fresh_thread = fresh 1 0 Fg 31 None 0 0
 
+abbrev pub entering_line : Line
+entering_line = record {
+    entry = record { step = record { moment = 0; actor = 0; act = acts.Enter 0 false }; answer = answers.Pri 31; thread = Some fresh_thread };
+    mark = None
+}
+
+abbrev pub picking_line : Line
+picking_line = record {
+    entry = record { step = record { moment = 0; actor = 0; act = acts.Select }; answer = answers.Got 1; thread = Some fresh_thread };
+    mark = None
+}
+
+-- they lead the empty queue to a state without an entry
+abbrev pub after_picking : Flat
+after_picking = (select_event one_cluster 0 0 (enter_event one_cluster 0 fresh_thread false 0 (empty_flat 1)).flat).flat
+
+abbrev pub OneThreadInCluster : Type 0
+OneThreadInCluster = CRun one_cluster 0 (entering_line ∷ picking_line ∷ []) after_picking × (after_picking.entries ≡ [])
+
+-- the journal of the yard leads it to a state in which the thread has ended
 abbrev pub OneThreadInYard : Type 0
-OneThreadInYard = (end : RunYard) × YRun one_cluster one_yard_journal end × (end.ended ≡ 1 ∷ [])
+OneThreadInYard = YRun one_cluster one_yard_journal (record { blocked = []; ended = 1 ∷ []; made = 1 ∷ []; last = 19000 })
 
 -- the log is the interleaving of its journals
 abbrev pub OneThreadIsMerged : Type 0

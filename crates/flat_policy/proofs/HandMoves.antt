@@ -1,0 +1,101 @@
+-- Steps that leave every thread in its place: looks, aims, runs, refreshes, and turning a cluster off and on.
+use Rattle.std.proofs.Common.{◌≡◌, ℕ, ◌<◌, Bool, cond, [], count_by, Option, Some, None, refl, sym, ap, ◌∙◌, subst, inl, arith, append-nil}
+use Rattle.std.proofs.lemmas.List.{length-set}
+use Rattle.std.proofs.lemmas.Option.{same_Some}
+use Rattle.sched_base.specs.Facts.{charged}
+use Rattle.sched_base.specs.declared.Answer.{Answer}
+use Rattle.sched_base.specs.declared.Facts.{Facts}
+use Rattle.flat_policy.specs.ClusterSteps.{Event, look_event, power_event, refresh_event, touched}
+use Rattle.flat_policy.specs.Laws.Sound.{FlatFits, HandFits, Sound, ThreadFits}
+use Rattle.flat_policy.specs.Machine.{Game, Hand, aim_outcome, flat_at, hand_at, kept_hand, leaving_hand, look_outcome, looked_hand, ran_outcome, seen_look, with_hand}
+use Rattle.flat_policy.specs.Queue.{Flat, Queued}
+use Rattle.flat_policy.specs.Refresh.{refreshed, repriced}
+use Rattle.flat_policy.specs.Setup.{SetupParts, actor_count, cluster_count, group_count, home_of, rate_of}
+use Rattle.flat_policy.specs.WellFormed.{EachQueued}
+use Rattle.flat_policy.proofs.Parts.{each_map}
+use Rattle.flat_policy.proofs.Placed.{held_by_test, passes, queued_by, sum_by_map}
+use Rattle.flat_policy.proofs.Refreshed.{refreshed_entries, refreshed_fits}
+use Rattle.flat_policy.proofs.Refreshes.{repriced_facts}
+use Rattle.flat_policy.proofs.SoundParts.{Goes, flat_fits, flat_parts, goes_flat, goes_nowhere, goes_yard}
+
+-- a hand with another moment or another look fits as before
+kept_fits : (setup : SetupParts) (h : Hand) (now : ℕ) → HandFits setup h → HandFits setup (kept_hand h now)
+kept_fits setup h now fit = record { thread = fit.thread; looks = fit.looks }
+
+looked_fits : (setup : SetupParts) (h : Hand) (c : ℕ) (answer : Answer) (now : ℕ) → HandFits setup h → HandFits setup (looked_hand h c answer now)
+looked_fits setup h c answer now fit = record { thread = fit.thread; looks = length-set h.looks c (Some (seen_look answer)) ∙ fit.looks }
+
+-- a step at a cluster that leaves its names and the hand
+pub leaving_goes : (setup : SetupParts) (g : Game) (a c now : ℕ) (e : Event) → Sound setup g → a < actor_count setup → c < cluster_count setup → FlatFits setup e.flat → ((p : ℕ → Bool) → queued_by p e.flat ≡ queued_by p (flat_at g c)) → Goes setup g (leaving_hand g a (hand_at g a) c now e).game
+leaving_goes setup g a c now e sound ain cin fit same =
+    goes_flat setup g a c (kept_hand (hand_at g a) now) e.flat sound ain cin (kept_fits setup (hand_at g a) now (sound.hands a ain)) fit (λ p. omega (arith, same p))
+
+touched_fits : (setup : SetupParts) (s : Flat) (now : ℕ) → FlatFits setup s → FlatFits setup (touched now s)
+touched_fits setup s now fit = flat_fits setup (touched now s) (flat_parts setup s fit) fit.threads
+
+pub power_goes : (setup : SetupParts) (g : Game) (a c now : ℕ) (on : Bool) → Sound setup g → a < actor_count setup → c < cluster_count setup → Goes setup g (leaving_hand g a (hand_at g a) c now (power_event on now (flat_at g c))).game
+power_goes setup g a c now on sound ain cin =
+    leaving_goes setup g a c now (power_event on now (flat_at g c)) sound ain cin
+    (flat_fits setup (record (flat_at g c) { on = on; last = now }) (flat_parts setup (flat_at g c) (sound.flats c cin)) (sound.flats c cin).threads)
+    (λ p. refl)
+
+-- a refresh leaves each name, and each thread in range
+repriced_name : (s : Flat) (now : ℕ) (e : Queued) → (repriced s now e).facts.name ≡ e.facts.name
+repriced_name s now e = repriced_facts s now e (λ f. f.facts.name ≡ e.facts.name) refl (λ t pri h. ap (λ (u : Facts). u.name) h)
+
+repriced_fits : (setup : SetupParts) (s : Flat) (now : ℕ) (e : Queued) → ThreadFits setup e.facts → ThreadFits setup (repriced s now e).facts
+repriced_fits setup s now e fit =
+    repriced_facts s now e (λ f. ThreadFits setup f.facts) fit
+    (λ t pri h. subst (ThreadFits setup) (sym h) (record { group = fit.group; base = fit.base; bound = fit.bound }))
+
+refreshed_flat : (setup : SetupParts) (s : Flat) (now : ℕ) → FlatFits setup s → FlatFits setup (refreshed (group_count setup) s now)
+refreshed_flat setup s now fit =
+    flat_fits setup (refreshed (group_count setup) s now)
+    (refreshed_fits (group_count setup) s now (flat_parts setup s fit))
+    (subst (EachQueued (λ (e : Queued). ThreadFits setup e.facts)) (sym (refreshed_entries (group_count setup) s now))
+    (each_map (λ (e : Queued). ThreadFits setup e.facts) (λ (e : Queued). ThreadFits setup e.facts) (repriced s now) (repriced_fits setup s now) s.entries fit.threads))
+
+refreshed_count : (groups : ℕ) (s : Flat) (now : ℕ) (p : ℕ → Bool) → queued_by p (refreshed groups s now) ≡ queued_by p s
+refreshed_count groups s now p =
+    ap (count_by (λ (e : Queued). p e.facts.name)) (refreshed_entries groups s now)
+    ∙ sum_by_map (λ (e : Queued). cond (p e.facts.name) 1 0) (repriced s now) s.entries (λ e. ap (λ n. cond (p n) 1 0) (repriced_name s now e))
+
+pub refresh_goes : (setup : SetupParts) (g : Game) (a c now : ℕ) → Sound setup g → a < actor_count setup → c < cluster_count setup → Goes setup g (leaving_hand g a (hand_at g a) c now (refresh_event setup now (flat_at g c))).game
+refresh_goes setup g a c now sound ain cin =
+    leaving_goes setup g a c now (refresh_event setup now (flat_at g c)) sound ain cin
+    (refreshed_flat setup (flat_at g c) now (sound.flats c cin))
+    (refreshed_count (group_count setup) (flat_at g c) now)
+
+pub look_goes : (setup : SetupParts) (g : Game) (a c now : ℕ) → Sound setup g → a < actor_count setup → c < cluster_count setup → (o : Option Facts) → Goes setup g (look_outcome setup g a (hand_at g a) c now o).game
+look_goes setup g a c now sound ain cin None = goes_nowhere setup g sound
+look_goes setup g a c now sound ain cin (Some t) =
+    let e : Event = look_event setup c t.bucket now (flat_at g c) in
+    goes_flat setup g a c (looked_hand (hand_at g a) c e.answer now) e.flat sound ain cin
+    (looked_fits setup (hand_at g a) c e.answer now (sound.hands a ain))
+    (touched_fits setup (flat_at g c) now (sound.flats c cin))
+    (λ p. refl)
+
+-- a step that changes no more than a hand
+hand_goes : (setup : SetupParts) (g : Game) (a : ℕ) (h : Hand) → Sound setup g → a < actor_count setup → HandFits setup h → ((p : ℕ → Bool) → held_by_test p h ≡ held_by_test p (hand_at g a)) → Goes setup g (with_hand a h g)
+hand_goes setup g a h sound ain fit same =
+    goes_yard setup g a h g.yard [] sound ain fit sound.yard (sym (append-nil g.yard.made)) (λ once p. omega (arith, same p)) (inl refl) (λ l. l)
+
+pub aim_goes : (setup : SetupParts) (g : Game) (a now : ℕ) → Sound setup g → a < actor_count setup → (o : Option Facts) → Goes setup g (aim_outcome setup g a (hand_at g a) now o).game
+aim_goes setup g a now sound ain None = goes_nowhere setup g sound
+aim_goes setup g a now sound ain (Some t) =
+    hand_goes setup g a (kept_hand (hand_at g a) now) sound ain (kept_fits setup (hand_at g a) now (sound.hands a ain)) (λ p. refl)
+
+-- a charged thread keeps its name and what it may be
+charged_fits : (setup : SetupParts) (us rate : ℕ) (t : Facts) → ThreadFits setup t → ThreadFits setup (charged us rate t)
+charged_fits setup us rate t fit = record { group = fit.group; base = fit.base; bound = fit.bound }
+
+pub ran_goes : (setup : SetupParts) (g : Game) (a us now : ℕ) → Sound setup g → a < actor_count setup → (o : Option Facts) → (hand_at g a).thread ≡ o → Goes setup g (ran_outcome setup g a (hand_at g a) us now o).game
+ran_goes setup g a us now sound ain None e = goes_nowhere setup g sound
+ran_goes setup g a us now sound ain (Some t) e =
+    let u : Facts = charged us (rate_of setup (home_of setup a)) t in
+    hand_goes setup g a (record (hand_at g a) { thread = Some u; last = now }) sound ain
+    (record {
+      thread = λ v h. subst (ThreadFits setup) (same_Some u v h) (charged_fits setup us (rate_of setup (home_of setup a)) t ((sound.hands a ain).thread t e));
+      looks = (sound.hands a ain).looks;
+    })
+    (λ p. ap {B = ℕ} (λ x. cond (passes p x) 1 0) (sym e))

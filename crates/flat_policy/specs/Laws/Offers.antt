@@ -1,0 +1,28 @@
+-- Laws of offers: what is offered may be taken and stands in the queue, and something is offered where some entry may be taken.
+use Rattle.std.specs.List.{list_any}
+use Rattle.std.specs.Prelude.{Contains, Some, filter, is_some, ℕ, ◌≡◌}
+use Rattle.flat_policy.specs.Laws.Choice.{OrdersMembers}
+use Rattle.flat_policy.specs.Offer.{MayTake, foreign_before, is_masked, mask_between, masked_before, may_take, offered_between, prefers}
+use Rattle.flat_policy.specs.Queue.{Flat, Queued}
+use Rattle.flat_policy.specs.Setup.{SetupParts, migrates}
+use Rattle.flat_policy.specs.WellFormed.{WellFormed}
+
+-- an offered entry stands in the queue, and the other cluster may take it; one is offered exactly where some entry may be taken
+pub record Offers (setup : SetupParts) (from to : ℕ) (s : Flat) : Type 0 where
+  pub stands : (e : Queued) → offered_between setup from to s ≡ Some e → Contains s.entries e
+  pub may : (e : Queued) → offered_between setup from to s ≡ Some e → MayTake setup from to s e.facts
+  pub there : is_some (offered_between setup from to s)
+      ≡ list_any (λ (e : Queued). may_take to (migrates setup from to) (mask_between setup from to s.on) e.facts) s.entries
+
+-- every well-formed queue offers so
+abbrev pub OffersWhatMayBeTaken : Type 0
+OffersWhatMayBeTaken = (groups : ℕ) (setup : SetupParts) (from to : ℕ) (s : Flat) → WellFormed groups s → Offers setup from to s
+
+-- both choices of an offer go by a strict order of the entries that they are made from
+pub record OffersInOrder (to mask : ℕ) (s : Flat) : Type 0 where
+  pub foreign : OrdersMembers foreign_before (filter (λ (e : Queued). prefers to e.facts) s.entries)
+  pub masked : OrdersMembers (masked_before s) (filter (λ (e : Queued). is_masked mask e.facts) s.entries)
+
+-- so each offer of a well-formed queue has one answer
+abbrev pub OffersAreOne : Type 0
+OffersAreOne = (groups to mask : ℕ) (s : Flat) → WellFormed groups s → OffersInOrder to mask s

@@ -1,0 +1,44 @@
+-- Sound states: what every state of the machine keeps that a run reaches.
+use Rattle.std.specs.Prelude.{Contains, IsTrue, Some, length, ℕ, ◌<◌, ◌≡◌, ◌≤◌}
+use Rattle.sched_base.specs.declared.Facts.{Facts}
+use Rattle.sched_base.specs.declared.Step.{Step}
+use Rattle.flat_policy.specs.Machine.{Game, Hand, Sleeper, Yard, empty_game, fits_step, flat_at, hand_at, state_after}
+use Rattle.flat_policy.specs.Queue.{Flat, Queued}
+use Rattle.flat_policy.specs.Setup.{SetupParts, actor_count, cluster_count, group_count}
+use Rattle.flat_policy.specs.WellFormed.{EachQueued, WellFormedWithin}
+
+-- a thread's group, base and bound cluster are in range
+pub record ThreadFits (setup : SetupParts) (t : Facts) : Type 0 where
+  pub group : t.group < group_count setup
+  pub base : t.base ≤ 127
+  pub bound : (c : ℕ) → t.bound ≡ Some c → c < cluster_count setup
+
+-- a queue is well-formed, whatever the number of its entries, and their threads are in range
+pub record FlatFits (setup : SetupParts) (s : Flat) : Type 0 where
+  pub formed : WellFormedWithin (length s.entries) (group_count setup) s
+  pub threads : EachQueued (λ (e : Queued). ThreadFits setup e.facts) s.entries
+
+-- a hand's thread is in range, and it has a place for a look at each cluster
+pub record HandFits (setup : SetupParts) (h : Hand) : Type 0 where
+  pub thread : (t : Facts) → h.thread ≡ Some t → ThreadFits setup t
+  pub looks : length h.looks ≡ cluster_count setup
+
+-- the blocked threads are in range
+abbrev pub YardFits : SetupParts → Yard → Type 0
+YardFits setup y = (w : Sleeper) → Contains y.blocked w → ThreadFits setup w.facts
+
+-- a state is sound: it has a queue for each cluster and a hand for each actor, and all of them fit
+pub record Sound (setup : SetupParts) (g : Game) : Type 0 where
+  pub flats_length : length g.flats ≡ cluster_count setup
+  pub hands_length : length g.hands ≡ actor_count setup
+  pub flats : (c : ℕ) → c < cluster_count setup → FlatFits setup (flat_at g c)
+  pub hands : (a : ℕ) → a < actor_count setup → HandFits setup (hand_at g a)
+  pub yard : YardFits setup g.yard
+
+-- the state before any step is sound
+abbrev pub EmptyIsSound : Type 0
+EmptyIsSound = (setup : SetupParts) → Sound setup (empty_game setup)
+
+-- each step that the setup fits keeps a state sound
+abbrev pub StepsKeepSound : Type 0
+StepsKeepSound = (setup : SetupParts) (g : Game) (step : Step) → Sound setup g → IsTrue (fits_step setup step) → Sound setup (state_after setup g step)
