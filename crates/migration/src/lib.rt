@@ -1,13 +1,20 @@
-// A library with one function.
+//! What an actor saw of the clusters, and the cluster that a thread should enter.
+//!
+//! All times are whole microseconds. No call here takes memory.
 #![tactic(auto)]
 
-ghost use Rattle.std.specs.Prelude.{◌≡◌};
-ghost use Rattle.migration.specs.Echo.{echo_of};
+mod looks;
 
-// The `ensures` clause is the contract: what `echo` returns is `echo_of` of its argument, a definition
-// in `specs/Echo.antt`, which a caller's clause can cite too.
-pub fn echo(x: usize) -> usize
-    ensures { result ≡ echo_of x }
-{
-    x
+pub use looks::Looks;
+use thiserror::Error;
+
+/// A cluster has to be looked at before an aim.
+#[derive(Clone, Copy, Debug, PartialEq, Eq, Error)]
+#[error("cluster {cluster} has to be looked at first")]
+pub struct LookFirst {
+    /// The cluster, counted from 0.
+    pub cluster: u8,
 }
+
+#[cfg(test)]
+mod tests;
