@@ -35,11 +35,7 @@ fn times_of_version_one(rt: HostRuntime) {
         let column = bucket.index() as usize;
         assert_eq!(rt; (wcel(bucket), warp(bucket), quantum(bucket)), expected);
         assert_eq!(rt;
-            (
-                table.get(0, column),
-                table.get(1, column),
-                table.get(2, column)
-            ),
+            (rows[0][column], rows[1][column], rows[2][column]),
             expected
         );
     }

@@ -1,5 +1,5 @@
 -- The fields of a setup that is built from rows.
-use Rattle.std.proofs.Common.{List, ap, length, map, refl, subst, sum_by, sym, take, ℕ, ◌<◌, ◌∙◌, ◌≡◌}
+use Rattle.std.proofs.Common.{List, ap, length, map, refl, subst, sum_by, sym, take, ℕ, ◌∙◌, ◌≡◌}
 use Rattle.std.proofs.lemmas.List.{length-map}
 use Rattle.std.proofs.lemmas.Simd.{map-map}
 use Rattle.flat_policy.proofs.SetupRows.{sum_cpus}
@@ -36,7 +36,7 @@ pub parts_built : (s : Inside) (clusters edges groups : List (List ℕ)) (times 
     inside_parts s ≡ parts_of_rows clusters edges groups s.threads times s.version
 parts_built s clusters edges groups times filled same =
     let count : length s.clusters.items ≡ length times =
-        ap length filled.sizes ∙ length-map clusters size_of_row ∙ sym same in
+    ap length filled.sizes ∙ length-map clusters size_of_row ∙ sym same in
     same_parts
     (map parts_of_size s.clusters.items) (map cluster_of_row clusters) s.edges.items (map edge_of_row edges) s.groups.items groups
     s.threads (map row_times (take (length s.clusters.items) s.times)) (map times_of_cluster times) s.version

@@ -50,8 +50,8 @@ pub in_range : (clusters edges groups : List (List ℕ)) (threads : ℕ) →
     first_out (common_ranges clusters edges groups threads) ≡ None → InRange clusters edges groups threads
 in_range clusters edges groups threads h =
     let all = none_out fields.Clusters fields.Edges fields.Groups fields.Threads
-        (clusters_in_range clusters) (edges_in_range (length clusters) edges) (groups_in_range (length clusters) groups)
-        (threads_in_range threads) h in
+    (clusters_in_range clusters) (edges_in_range (length clusters) edges) (groups_in_range (length clusters) groups)
+    (threads_in_range threads) h in
     record { clusters_pass = all.0; edges_pass = all.1; groups_pass = all.2; threads_pass = all.3 }
 
 -- a row of a cluster
@@ -70,7 +70,7 @@ not_eq x y h e = cc (eq-eqb x y e)
 pub edge_row : (count : ℕ) (row : List ℕ) → is_edge_row count row ≡ true → IsEdge count (edge_of_row row)
 edge_row count row h =
     let p = both (nat_lt (nth row 0) count && nat_lt (nth row 1) count)
-        (not (nth row 0 == nth row 1) && (nat_le (nth row 2) 10000000 && (nat_le (nth row 3) 1 && nat_le (nth row 4) 63))) h in
+    (not (nth row 0 == nth row 1) && (nat_le (nth row 2) 10000000 && (nat_le (nth row 3) 1 && nat_le (nth row 4) 63))) h in
     let ends = both (nat_lt (nth row 0) count) (nat_lt (nth row 1) count) p.0 in
     let q = both (not (nth row 0 == nth row 1)) (nat_le (nth row 2) 10000000 && (nat_le (nth row 3) 1 && nat_le (nth row 4) 63)) p.1 in
     let r = both (nat_le (nth row 2) 10000000) (nat_le (nth row 3) 1 && nat_le (nth row 4) 63) q.1 in

@@ -55,7 +55,7 @@ times_at rows n pass three sixes small =
     let warps = row_of_times rows 1 in
     let quanta = row_of_times rows 2 in
     let quantum = between_true 1000 100000 (nth quanta n)
-        (list_all_true (between 1000 100000) quanta n 0 pass.quantum (omega (arith, sixes 2 [] (omega arith)))) in
+    (list_all_true (between 1000 100000) quanta n 0 pass.quantum (omega (arith, sixes 2 [] (omega arith)))) in
     record {
       wcel_most = leb-true (nth wcels n) 10000000
           (list_all_true (λ x. nat_le x 10000000) wcels n 0 pass.wcel (omega (arith, sixes 0 [] (omega arith))));

@@ -1,5 +1,5 @@
 -- The times of a cluster, as a row of the table keeps them.
-use Rattle.std.proofs.Common.{List, [], ap, arith, get_or, length, length-take, map, refl, subst, sym, take, ℕ, ◌+◌, ◌<◌, ◌∙◌, ◌≡◌, ◌≤◌}
+use Rattle.std.proofs.Common.{List, [], ap, arith, get_or, length, length-take, map, refl, subst, sym, take, ℕ, ◌<◌, ◌∙◌, ◌≡◌, ◌≤◌}
 use Rattle.std.proofs.lemmas.List.{get_or-map, get_or-take, length-map}
 use Rattle.sched_base.specs.Bucket.{index}
 use Rattle.sched_base.specs.declared.Bucket.{Bucket}
@@ -48,7 +48,7 @@ times_read s v c column b is view below at =
     let counted : cluster_count (inside_parts s) ≡ cluster_count v = ap cluster_count view in
     let inside : c < length s.clusters.items = omega (arith, counted, length-map s.clusters.items parts_of_size) in
     let rows : length s.clusters.items ≤ length s.times =
-        omega (arith, is.rows, is.setup.clusters_most, length-map s.clusters.items parts_of_size) in
+    omega (arith, is.rows, is.setup.clusters_most, length-map s.clusters.items parts_of_size) in
     rw (← view, at, row_at s.times (length s.clusters.items) c [] inside rows) (sym (times_for-row (get_or s.times c []) b))
 
 -- they are in their ranges

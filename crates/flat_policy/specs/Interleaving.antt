@@ -5,7 +5,6 @@ use Rattle.sched_base.specs.declared.Act.{Act}
 use Rattle.sched_base.specs.declared.Entry.{Entry}
 use Rattle.sched_base.specs.declared.Spot.{Spot}
 use Rattle.flat_policy.specs.declared.journal.Line.{Line}
-use Rattle.flat_policy.specs.Machine.{in_yard}
 use Rattle.flat_policy.specs.Places.{act_of, actor_of}
 use Rattle.sched_base.specs.declared.Act.TheVariants as acts
 use Rattle.sched_base.specs.declared.Spot.TheVariants as spots

@@ -8,8 +8,6 @@ use Rattle.sched_base.specs.declared.Facts.{Facts}
 use Rattle.sched_base.specs.declared.Step.{Step}
 use Rattle.flat_policy.specs.declared.setup.Times.{Times}
 use Rattle.flat_policy.specs.Machine.{Game, empty_game, hand_at, live_count, reply, state_after}
-use Rattle.flat_policy.specs.Moves.{selected}
-use Rattle.flat_policy.specs.Offer.{offered}
 use Rattle.flat_policy.specs.Queue.{Flat}
 use Rattle.flat_policy.specs.Setup.{SetupParts, all_buckets, home_of, times_of_version_one}
 use Rattle.flat_policy.specs.Texts.Lines.{newline}

@@ -9,7 +9,6 @@ use Rattle.flat_policy.specs.Aim.{aim}
 use Rattle.flat_policy.specs.Machine.{Hand, empty_hand, kept_hand, looked_hand, taking_hand}
 use Rattle.flat_policy.specs.Places.{NoMark, Says, act_of, actor_of, moment_of}
 use Rattle.flat_policy.specs.Setup.{SetupParts, home_of, rate_of}
-use Rattle.flat_policy.specs.Texts.SetupLines.{in_range}
 use Rattle.sched_base.specs.declared.Act.TheVariants as acts
 use Rattle.sched_base.specs.declared.Answer.TheVariants as answers
 

@@ -13,7 +13,6 @@ use Rattle.flat_policy.specs.ClusterSteps.{Event, enter_event, look_event, named
 use Rattle.flat_policy.specs.Machine.{fits_step, made_thread}
 use Rattle.flat_policy.specs.Queue.{Flat, Queued, empty_flat}
 use Rattle.flat_policy.specs.Setup.{SetupParts, group_count, home_of}
-use Rattle.flat_policy.specs.Texts.SetupLines.{in_range}
 use Rattle.flat_policy.specs.Unpreceded.{unpreceded}
 use Rattle.sched_base.specs.declared.Act.TheVariants as acts
 use Rattle.sched_base.specs.declared.Answer.TheVariants as answers

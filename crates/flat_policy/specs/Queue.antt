@@ -1,10 +1,9 @@
 -- The flat queue of one cluster: an unordered list of entries, with the windows of its lanes and the turns of its clutch buckets.
 -- The list stands in the order of arrival; that order decides no answer.
 use Rattle.std.specs.List.{list_any}
-use Rattle.std.specs.Prelude.{Bool, List, None, Option, [], false, filter, if◌then◌else◌, is_some, map, negsuc, not, pos, replicate, slice_index_or, true, ℕ, ℤ, ◌&&◌, ◌*◌, ◌+◌, ◌==◌, ◌∷◌}
+use Rattle.std.specs.Prelude.{Bool, List, None, Option, [], false, filter, if◌then◌else◌, is_some, map, negsuc, not, pos, replicate, slice_index_or, true, ℕ, ℤ, ◌&&◌, ◌*◌, ◌+◌, ◌==◌}
 use Rattle.sched_base.specs.Bucket.{index}
 use Rattle.sched_base.specs.declared.Bucket.{Bucket}
-use Rattle.sched_base.specs.declared.Bucket.TheVariants.{Bg, Df, Fg, Ini, Ut}
 use Rattle.sched_base.specs.declared.Facts.{Facts}
 pub use Rattle.bucket_tables.specs.Lanes.{bucket_lane as lane, lanes_in_order as timeshare_lanes}
 use Rattle.bucket_tables.specs.declared.Lane.{Lane}

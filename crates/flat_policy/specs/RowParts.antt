@@ -1,5 +1,5 @@
 -- The setup that rows in range make, in either version.
-use Rattle.std.specs.Prelude.{All, List, [], length, map, ℕ, ◌∷◌, ◌≡◌, ◌⊎◌}
+use Rattle.std.specs.Prelude.{All, List, [], map, ℕ, ◌∷◌, ◌≡◌, ◌⊎◌}
 use Rattle.bucket_tables.specs.Tables.{by_bucket, quantum_of, warp_of, wcel_of}
 use Rattle.flat_policy.specs.Ranges.{cluster_of_row, edge_of_row}
 use Rattle.flat_policy.specs.Setup.{SetupParts}

@@ -238,7 +238,10 @@ impl Setup {
     {
         match act {
             Act::Make {
-                group, base, bound, ..
+                group,
+                base,
+                bound,
+                ..
             } => {
                 group < self.groups() && base <= 127 && bound.is_none_or(|c| c < self.clusters())
             }
@@ -268,3 +271,6 @@ fn home_among(clusters: &[ClusterSize], actor: u8) -> u8
     }
     unreachable!()
 }
+
+#[cfg(test)]
+mod tests;

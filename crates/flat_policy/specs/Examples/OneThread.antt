@@ -96,14 +96,14 @@ fresh_thread = fresh 1 0 Fg 31 None 0 0
 
 abbrev pub entering_line : Line
 entering_line = record {
-    entry = record { step = record { moment = 0; actor = 0; act = acts.Enter 0 false }; answer = answers.Pri 31; thread = Some fresh_thread };
-    mark = None
+  entry = record { step = record { moment = 0; actor = 0; act = acts.Enter 0 false }; answer = answers.Pri 31; thread = Some fresh_thread };
+  mark = None;
 }
 
 abbrev pub picking_line : Line
 picking_line = record {
-    entry = record { step = record { moment = 0; actor = 0; act = acts.Select }; answer = answers.Got 1; thread = Some fresh_thread };
-    mark = None
+  entry = record { step = record { moment = 0; actor = 0; act = acts.Select }; answer = answers.Got 1; thread = Some fresh_thread };
+  mark = None;
 }
 
 -- they lead the empty queue to a state without an entry

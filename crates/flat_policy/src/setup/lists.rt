@@ -54,9 +54,7 @@ fn group_row(row: &[u64; 6]) -> [u8; 6]
     ensures { result ≡ row.now }
 {
     let [ui, fg, ini, df, ut, bg] = *row;
-    [
-        ui as u8, fg as u8, ini as u8, df as u8, ut as u8, bg as u8,
-    ]
+    [ui as u8, fg as u8, ini as u8, df as u8, ut as u8, bg as u8]
 }
 
 /// The times of the clusters in a table, a row for each.

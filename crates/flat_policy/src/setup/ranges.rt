@@ -92,9 +92,7 @@ fn are_cluster_rows(rows: &[[u64; 2]]) -> bool
 fn clusters_in_range(clusters: &[[u64; 2]]) -> bool
     ensures { result ≡ clusters_in_range clusters.now }
 {
-    between(1, 8, clusters.len() as u64)
-        && are_cluster_rows(clusters)
-        && actors_of(clusters) <= 16
+    between(1, 8, clusters.len() as u64) && are_cluster_rows(clusters) && actors_of(clusters) <= 16
 }
 
 /// How many processors the clusters have together.
@@ -114,12 +112,7 @@ fn is_edge_row(count: u64, row: &[u64; 5]) -> bool
     ensures { result ≡ is_edge_row count row.now }
 {
     let [from, to, weight, migrate, steal] = *row;
-    from < count
-        && to < count
-        && from != to
-        && weight <= 10_000_000
-        && migrate <= 1
-        && steal <= 63
+    from < count && to < count && from != to && weight <= 10_000_000 && migrate <= 1 && steal <= 63
 }
 
 fn same_ends(x: &[u64; 5], y: &[u64; 5]) -> bool

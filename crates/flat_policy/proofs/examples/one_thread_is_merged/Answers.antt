@@ -1,5 +1,5 @@
 -- The one cluster and the one actor.
-use Rattle.std.proofs.Common.{refl, rules, ℕ, zero, suc, ◌<◌, ◌≡◌, arith, List, length, get_or as slice_index_or, [], ◌∷◌}
+use Rattle.std.proofs.Common.{refl, rules, ℕ, zero, suc, ◌<◌, ◌≡◌, arith, length, get_or as slice_index_or, [], ◌∷◌}
 use Rattle.flat_policy.specs.Examples.OneThread.{one_journal, one_log}
 use Rattle.flat_policy.specs.Interleaving.{lines_at_cluster, lines_of_actor}
 use Rattle.flat_policy.proofs.examples.one_thread_is_merged.Goals as goal

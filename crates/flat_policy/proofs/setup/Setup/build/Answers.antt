@@ -1,4 +1,4 @@
-use Rattle.std.proofs.Common.{length, sym, ◌∙◌, ◌≤◌}
+use Rattle.std.proofs.Common.{length, sym, ◌∙◌}
 use Rattle.flat_policy.proofs.SetupOrdinary.{few_clusters, ordinary_in_range, ordinary_parts}
 use Rattle.flat_policy.proofs.setup.Setup.build.Goals as goal
 

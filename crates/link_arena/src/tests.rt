@@ -1,0 +1,29 @@
+use crate::{Arena, Links};
+use std::test::Fail;
+
+// Two values go in, links are written, values are changed, and an emptied slot is passed over and given out again.
+#[test]
+fn slots_values_and_links(rt: HostRuntime) -> Result<(), Fail> {
+    let mut arena: Arena<u32> = Arena::new(rt.alloc())?;
+    assert_eq!(rt; arena.next_live(0), None);
+    arena.reserve()?;
+    let a = arena.insert_reserved(10);
+    let removed = arena.remove(a);
+    assert_eq!(rt; removed, 10);
+    assert_eq!(rt; arena.next_live(0), None);
+    let b = arena.insert_reserved(20);
+    assert_eq!(rt; b, a);
+    let chain = Links {
+        child: Some(7),
+        next: None,
+        prev: Some(b),
+    };
+    arena.set_links(1, b, chain);
+    assert_eq!(rt; arena.links(1, b), chain);
+    assert_eq!(rt; arena.links(0, b), Links::NONE);
+    assert_eq!(rt; arena.replace(b, 21), 20);
+    *arena.get_mut(b) = 22;
+    assert_eq!(rt; *arena.get(b), 22);
+    assert_eq!(rt; arena.next_live(0), Some(b));
+    Ok(())
+}

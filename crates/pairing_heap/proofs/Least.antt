@@ -1,0 +1,66 @@
+-- The first slot of a heap is its least.
+use Rattle.std.proofs.Common.{◌≡◌, ℕ, Bool, true, false, [], ◌++◌, Option, Some, None, refl, sym, ap, subst, ◌∙◌, arith, rules, All, IfSome, IsNone, ◌↔◌}
+use Rattle.std.proofs.lemmas.List.Elements.{All-append, All-cons}
+use Rattle.std.specs.Prelude.{◌==◌}
+use Rattle.link_arena.specs.Arena.{Arena, links_at}
+use Rattle.pairing_heap.specs.Order.{IsStrictOrder}
+use Rattle.pairing_heap.specs.Tree.{Tree, leaf, node, pairs, slot_count, Ordered}
+use Rattle.pairing_heap.specs.Heap.{keys_at, tree_at, pairs_at, Stands, Holds, IsLeast}
+use Rattle.pairing_heap.specs.Chain.{solo}
+use Rattle.pairing_heap.proofs.Counts.{slot_count-root}
+use Rattle.pairing_heap.proofs.Standing.{no_root, count_by-stands}
+use Rattle.pairing_heap.proofs.Taking.{root_of}
+
+-- where a key does not precede a second, nor the second a third, the first does not precede the third
+pub not_before : {X : Type 0} (precedes : X → X → Bool) → IsStrictOrder precedes → (a b c : X) → precedes a b ≡ false → precedes b c ≡ false → precedes a c ≡ false
+not_before {X} precedes order a b c ab bc = first (precedes a c) refl
+  where
+    second : (t : Bool) → precedes b a ≡ t → precedes a c ≡ true → ⊥
+    second true is before = let loop = order.transitive b a c is before in cc
+    second false is before = let same = order.total a b ab is in let e = ap (λ x. precedes x c) same in cc
+
+    first : (t : Bool) → precedes a c ≡ t → precedes a c ≡ false
+    first false is = is
+    first true is = absurd (second (precedes b a) refl is)
+
+module _ {X : Type 0} (precedes : X → X → Bool) (order : IsStrictOrder precedes) (top : X) where
+  no_pair : All (λ (pair : X × ℕ). precedes pair.0 top ≡ false) []
+  no_pair = search rules
+
+  -- below a key that does not precede the first one, no key precedes it
+  pub All-ordered : (key : X) (tree : Tree X) → precedes key top ≡ false → Ordered precedes key tree → All (λ (pair : X × ℕ). precedes pair.0 top ≡ false) (pairs tree)
+  All-ordered key leaf behind ordered = no_pair
+  All-ordered key (node here slot children rest) behind ordered =
+      let next = not_before precedes order here key top ordered.0 behind in
+      All-cons (λ (pair : X × ℕ). precedes pair.0 top ≡ false) (here, slot) (pairs children ++ pairs rest) next
+      (All-append (λ (pair : X × ℕ). precedes pair.0 top ≡ false) (pairs children) (pairs rest)
+      (All-ordered here children next ordered.1)
+      (All-ordered key rest behind ordered.2))
+
+module _ {V X : Type 0} (k : ℕ) (key_of : V → X) (precedes : X → X → Bool) where
+  pub least_first : IsStrictOrder precedes → (a : Arena V) (root : Option ℕ) → Stands k key_of precedes a root → IfSome root (λ slot. IsLeast k key_of precedes a root slot)
+  least_first order a None stands = tt
+  least_first order a (Some root) stands = λ key keyed.
+      let before = root_of k key_of precedes a root stands in
+      let e = sym before.rooted.keyed ∙ keyed in
+      let same : before.key ≡ key = cc in
+      let all = All-ordered precedes order before.key before.key (solo before.key root before.children) (order.irreflexive before.key) (order.irreflexive before.key, before.rooted.ordered, tt) in
+      subst (λ (x : X). All (λ (pair : X × ℕ). precedes pair.0 x ≡ false) (pairs_at k key_of a (Some root))) same
+      (subst (λ (t : Tree X). All (λ (pair : X × ℕ). precedes pair.0 before.key ≡ false) (pairs t)) (sym before.is) all)
+
+  pub held_first : (a : Arena V) (root : Option ℕ) → Stands k key_of precedes a root → IfSome root (λ slot. Holds k key_of a root slot)
+  held_first a None stands = tt
+  held_first a (Some root) stands =
+      let before = root_of k key_of precedes a root stands in
+      omega (arith, count_by-stands k key_of precedes a (Some root) (λ pair. pair.1 == root), ap (slot_count root) before.is, slot_count-root before.key root before.children leaf)
+
+  pub empty_first : (a : Arena V) (root : Option ℕ) → Stands k key_of precedes a root → IsNone root ↔ (pairs_at k key_of a root ≡ [])
+  empty_first a None stands = (
+    λ _. ap pairs (no_root precedes (keys_at key_of a) (links_at a k) (tree_at k key_of a None) stands.heap),
+    λ _. refl,
+  )
+  empty_first a (Some root) stands =
+      let before = root_of k key_of precedes a root stands in (
+        λ never. cc,
+        λ empty. let full = sym (ap pairs before.is) ∙ empty in cc,
+      )

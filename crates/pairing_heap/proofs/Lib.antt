@@ -1,0 +1,15 @@
+pub mod Counts
+pub mod Frame
+pub mod Size
+pub mod Melding
+pub mod Passes
+pub mod Pairing
+pub mod Standing
+pub mod Adding
+pub mod Taking
+pub mod Least
+pub mod Cutting
+pub mod Cuts
+pub mod Joining
+pub mod Removing
+pub mod Rekeying

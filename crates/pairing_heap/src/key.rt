@@ -1,0 +1,28 @@
+ghost use Rattle.std.specs.Prelude.{◌≡◌, ◌+◌, Bool};
+ghost use Rattle.pairing_heap.specs.Order.{IsStrictOrder};
+
+use crate::Steps;
+use std::sync::ledger::Ledger;
+
+/// A key by which a heap is ordered.
+pub trait HeapKey: Drop {
+    ghost precedes: { Self → Self → Bool };
+
+    /// Whether `self` precedes `other`. Each call counts one comparison.
+    fn before<L: Ledger>(&self, other: &Self, steps: &mut Steps<L>) -> bool
+        ensures answer { result ≡ precedes self.now other.now }
+        ensures tick { steps.new ≡ steps.old + 1 };
+
+    ghost order: { IsStrictOrder precedes };
+}
+
+/// A value that has a key for the link set `K`.
+pub trait Keyed<const K: usize> {
+    type Key: HeapKey;
+
+    ghost key_of: { Self → Self.Key };
+
+    /// The value's key.
+    fn key(&self) -> Self::Key
+        ensures { result ≡ key_of self.now };
+}

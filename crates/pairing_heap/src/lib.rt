@@ -1,0 +1,11 @@
+//! Pairing heaps, after Fredman, Sedgewick, Sleator and Tarjan, whose nodes are slots of an arena.
+#![tactic(auto)]
+
+mod heap;
+mod key;
+mod meld;
+mod steps;
+
+pub use heap::Heap;
+pub use key::{HeapKey, Keyed};
+pub use steps::Steps;

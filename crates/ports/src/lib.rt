@@ -1,0 +1,24 @@
+//! Where bytes come from and where they go: sources, sinks, and the means to test what stands on them.
+#![tactic(auto)]
+
+pub mod byte_sink;
+pub mod byte_source;
+pub mod count_sink;
+pub mod devices;
+pub mod gate;
+mod handing;
+mod judging;
+pub mod line_feed;
+mod seeking;
+pub mod std_ports;
+pub mod sure_source;
+mod window;
+
+pub use byte_sink::ByteSink;
+pub use byte_source::ByteSource;
+pub use count_sink::CountSink;
+pub use devices::{Failed, Sink, Source};
+pub use gate::{Gate, NoGate, Point};
+pub use line_feed::{Fed, INPUT_MOST, LINE_MOST, LineFeed};
+pub use std_ports::{StdSink, StdSource};
+pub use sure_source::SureSource;

@@ -1,0 +1,13 @@
+use Rattle.std.proofs.Common.{ℕ, ap, sym, ◌∙◌, subst, arith}
+use Rattle.rights.specs.declared.view.View.{View}
+use Rattle.rights.specs.Rule.{MayBurn}
+use Rattle.rights.specs.Values.{Insight}
+use Rattle.rights.proofs.Steps.{burns}
+use Rattle.rights.proofs.desk.Desk.burn_by.Goals as goal
+
+pub load-requires : goal.load-requires
+load-requires g c = (
+  ap (λ (k : Insight). k.desk) c.book.view_is ∙ c.requires.own ∙ sym c.self.view_is,
+  omega (arith, c.self.invariant),
+  burns _ _ _ _ _ (subst (λ (p : ℕ × View). MayBurn p.0 p.1) (λ i. (c.requires.count i, sym (ap (λ (k : Insight). k.view) c.book.view_is) i)) c.requires.enough),
+)

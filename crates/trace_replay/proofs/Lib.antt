@@ -1,0 +1,10 @@
+pub mod Decimals
+pub mod Digits
+pub mod Keeping
+pub mod Meets
+pub mod Picking
+pub mod Picks
+pub mod Progress
+pub mod Runs
+pub mod Spelling
+pub mod Unique

@@ -1,0 +1,8 @@
+-- What contracts cite.
+pub mod FirstForm
+pub mod FirstGame
+pub mod Kept
+pub mod Outflow
+pub mod Reading
+pub mod Replay
+pub mod Texts
