@@ -1,5 +1,7 @@
 //! Worked examples of the calls.
 
+ghost use Rattle.std.specs.Prelude.{◌≡◌};
+
 use super::*;
 use flat_policy::setup::BuildError;
 use std::alloc::Global;
@@ -17,7 +19,9 @@ fn two_clusters(alloc: Global) -> Result<Setup, BuildError> {
 }
 
 /// A thread's facts; its group is that of its preferred cluster.
-fn facts(bucket: Bucket, bound: Option<u8>, prefer: u8) -> Facts {
+fn facts(bucket: Bucket, bound: Option<u8>, prefer: u8) -> Facts
+    ensures { result.prefer ≡ prefer }
+{
     Facts {
         name: 1,
         group: prefer,
@@ -37,18 +41,22 @@ fn facts(bucket: Bucket, bound: Option<u8>, prefer: u8) -> Facts {
 fn edges_of_a_setup(rt: HostRuntime) -> Result<(), std::test::Fail> {
     let setup = two_clusters(rt.alloc())?;
     let edges = Edges::of(&setup);
-    for (i, j, weight, migrate, steal) in [
-        (0, 1, 8000, true, 16),
-        (1, 0, 0, true, 0),
-        (0, 0, 0, false, 0),
-        (7, 7, 0, false, 0),
-        (2, 1, 0, false, 0),
-    ] {
-        assert_eq!(rt;
-            (edges.weight(i, j), edges.migrate(i, j), edges.steal(i, j)),
-            (weight, migrate, steal)
-        );
-    }
+    assert_eq!(rt;
+        (edges.weight(0, 1), edges.weight(1, 0), edges.weight(7, 7)),
+        (8000, 0, 0)
+    );
+    assert_eq!(rt;
+        (
+            edges.migrate(0, 1),
+            edges.migrate(1, 0),
+            edges.migrate(1, 1)
+        ),
+        (true, true, false)
+    );
+    assert_eq!(rt;
+        (edges.steal(0, 1), edges.steal(1, 0), edges.steal(2, 1)),
+        (16, 0, 0)
+    );
     Ok(())
 }
 

@@ -1,5 +1,7 @@
 //! Worked examples of the calls.
 
+ghost use Rattle.std.specs.Prelude.{◌≡◌, ◌≤◌};
+
 use super::*;
 use edge_matrix::Edges;
 use flat_policy::setup::{BuildError, Setup};
@@ -17,7 +19,9 @@ fn edges_between(alloc: Global, count: usize, edges: &[[u64; 5]]) -> Result<Edge
 }
 
 /// A foreground thread's facts.
-fn facts(bound: Option<u8>, prefer: u8) -> Facts {
+fn facts(bound: Option<u8>, prefer: u8) -> Facts
+    ensures { result.prefer ≡ prefer }
+{
     Facts {
         name: 3,
         group: 0,
