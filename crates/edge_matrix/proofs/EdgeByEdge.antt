@@ -1,0 +1,57 @@
+-- The tables of a setup, edge by edge.
+use Rattle.std.proofs.Common.{sym, drop, slice_get, zero, suc, ◌+◌, ◌≡◌, ◌≢◌, ◌<◌, ◌&&◌, ◌==◌, Bool, true, false, ℕ, List, [], ◌∷◌, cond, refl, ap, arith, ◌∙◌, Option, Some, None, find}
+use Rattle.std.specs.Option.{option_map_or}
+use Rattle.std.proofs.lemmas.Bool.Decides.{nat_tests}
+use Rattle.flat_policy.specs.declared.setup.EdgeSpec.{EdgeSpec}
+use Rattle.flat_policy.specs.Setup.{SetupParts}
+use Rattle.edge_matrix.specs.EdgeTables.{EdgeTables, edges_of, no_edges, table_of, with_edge, with_number}
+use Rattle.edge_matrix.proofs.Tables.{table_of-but_one, table_of-zero}
+
+-- whether an edge leads from one cluster to another
+abbrev pub leads : ℕ → ℕ → EdgeSpec → Bool
+leads i j e = (e.from == i) && (e.to == j)
+
+pub leads-own : (e : EdgeSpec) → leads e.from e.to e ≡ true
+leads-own e = grind (arith, nat_tests)
+
+pub leads-other : (e : EdgeSpec) (i j : ℕ) → i ≢ e.from → leads i j e ≡ false
+leads-other e i j other = grind (arith, nat_tests)
+
+pub leads-other_to : (e : EdgeSpec) (i j : ℕ) → j ≢ e.to → leads i j e ≡ false
+leads-other_to e i j other = grind (arith, nat_tests)
+
+-- the table of what the first edge of a pair carries, with one more edge before the others
+pub table_of-first : (carried : Option EdgeSpec → ℕ) (e : EdgeSpec) (es : List EdgeSpec) → e.from < 8 → e.to < 8
+    → table_of (λ i j. carried (find (leads i j) (e ∷ es)))
+    ≡ with_number e.from e.to (carried (Some e)) (table_of (λ i j. carried (find (leads i j) es)))
+table_of-first carried e es row column =
+    table_of-but_one (λ i j. carried (find (leads i j) es)) (λ i j. carried (find (leads i j) (e ∷ es))) e.from e.to (carried (Some e)) row column
+    (ap (λ (b : Bool). carried (cond b (Some e) (find (leads e.from e.to) es))) (leads-own e))
+    (λ j other. ap (λ (b : Bool). carried (cond b (Some e) (find (leads e.from j) es))) (leads-other_to e e.from j other))
+    (λ i j other. ap (λ (b : Bool). carried (cond b (Some e) (find (leads i j) es))) (leads-other e i j other))
+
+-- the tables of a setup with one edge before its others
+pub edges_of-first : (setup : SetupParts) (e : EdgeSpec) (es : List EdgeSpec) → e.from < 8 → e.to < 8
+    → edges_of (record setup { edges = e ∷ es }) ≡ with_edge e (edges_of (record setup { edges = es }))
+edges_of-first setup e es row column =
+    let w = table_of-first (λ (o : Option EdgeSpec). option_map_or (λ (x : EdgeSpec). x.weight) o 0) e es row column in
+    let m = table_of-first (λ (o : Option EdgeSpec). cond (option_map_or (λ (x : EdgeSpec). x.migrate) o false) 1 0) e es row column in
+    let s = table_of-first (λ (o : Option EdgeSpec). option_map_or (λ (x : EdgeSpec). x.steal) o 0) e es row column in
+    rw (w, m, s) refl
+
+-- the tables of a setup with no edge
+pub edges_of-none : (setup : SetupParts) → edges_of (record setup { edges = [] }) ≡ no_edges
+edges_of-none setup = rw table_of-zero refl
+
+-- an element and what follows it
+pub drop-get : (xs : List EdgeSpec) (k : ℕ) (x : EdgeSpec) → slice_get xs k ≡ Some x → drop k xs ≡ x ∷ drop (k + 1) xs
+drop-get [] k x at = absurd (cc)
+drop-get (y ∷ ys) zero x at = let same : y ≡ x = cc in cc
+drop-get (y ∷ ys) (suc k) x at = drop-get ys k x at ∙ (let next : suc (k + 1) ≡ suc k + 1 = omega arith in ap (λ (n : ℕ). x ∷ drop n (y ∷ ys)) next)
+
+-- one edge more, taken from the last to the first
+pub edges_of-more : (setup : SetupParts) (k : ℕ) (e : EdgeSpec) → slice_get setup.edges k ≡ Some e → e.from < 8 → e.to < 8
+    → with_edge e (edges_of (record setup { edges = drop (k + 1) setup.edges })) ≡ edges_of (record setup { edges = drop k setup.edges })
+edges_of-more setup k e at row column =
+    sym (edges_of-first setup e (drop (k + 1) setup.edges) row column)
+    ∙ ap (λ (es : List EdgeSpec). edges_of (record setup { edges = es })) (sym (drop-get setup.edges k e at))

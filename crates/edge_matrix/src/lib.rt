@@ -1,0 +1,148 @@
+//! The edges between clusters as tables, and what they allow.
+//!
+//! No call here takes memory or refuses.
+#![tactic(auto)]
+
+ghost use Rattle.std.specs.Prelude.{◌≡◌};
+ghost use Rattle.flat_policy.specs.Setup.{mask_has};
+
+use bucket_tables::Table;
+use flat_policy::setup::{EdgeSpec, Setup};
+use sched_base::{Bucket, Facts};
+use std::marker::Model;
+
+#[cfg(test)]
+mod tests;
+
+/// The edges of a setup, by the cluster that an edge leaves and the cluster that it leads to.
+/// Contracts see three tables of numbers; those of a setup are `edges_of` it. It lies in place
+/// and takes no memory.
+#[derive(Clone, Copy)]
+pub struct Edges {
+    weights: Table<8, 8>,
+    /// 1 where threads may move along the edge, and 0 where not.
+    migrates: Table<8, 8>,
+    steals: Table<8, 8>,
+}
+
+impl Model for Edges {
+    ghost use Rattle.edge_matrix.specs.EdgeTables.{EdgeTables, FitTables};
+
+    ghost Value = { EdgeTables };
+
+    ghost view = { λ edges. record { weights = edges.weights; migrates = edges.migrates; steals = edges.steals } };
+
+    ghost invariant = { λ edges. FitTables (record { weights = edges.weights; migrates = edges.migrates; steals = edges.steals }) };
+
+    ghost inverse = { λ tables. record { weights = tables.weights; migrates = tables.migrates; steals = tables.steals } };
+}
+
+impl Edges {
+    ghost use Rattle.std.specs.Prelude.{◌≡◌, ◌<◌, ◌↔◌, IsTrue};
+    ghost use Rattle.flat_policy.specs.Aim.{may_enter};
+    ghost use Rattle.flat_policy.specs.Offer.{MayTake, mask_between, may_take};
+    ghost use Rattle.flat_policy.specs.Queue.{Flat};
+    ghost use Rattle.flat_policy.specs.Setup.{SetupParts, edge_weight, migrates, steal_mask};
+    ghost use Rattle.edge_matrix.specs.EdgeTables.{edges_of, no_edges, with_edge};
+
+    /// The edges of a setup.
+    pub fn of(setup: &Setup) -> Edges
+        ensures { result ≡ edges_of setup.now }
+    {
+        setup.keeps_ranges();
+        let mut edges = Edges::none();
+        for k in (0..setup.edge_count()).rev() {
+            edges.put(setup.edge_at(k));
+        }
+        edges
+    }
+
+    /// The tables with no edge.
+    fn none() -> Edges
+        ensures { result ≡ no_edges }
+    {
+        Edges {
+            weights: Table::filled(0),
+            migrates: Table::filled(0),
+            steals: Table::filled(0),
+        }
+    }
+
+    /// Puts an edge in, in place of one with the same ends.
+    fn put(&mut self, edge: EdgeSpec)
+        requires from { edge.from < 8 }
+        requires to { edge.to < 8 }
+        requires mask { edge.steal < 64 }
+        ensures { self.new ≡ with_edge edge self.old }
+    {
+        let from = edge.from as usize;
+        let to = edge.to as usize;
+        self.weights.set(from, to, edge.weight as u64);
+        self.migrates
+            .set(from, to, if edge.migrate { 1 } else { 0 });
+        self.steals.set(from, to, edge.steal as u64);
+    }
+
+    /// The weight of the edge from cluster `i` to cluster `j`, in microseconds; 0 for a missing
+    /// edge.
+    pub fn weight(&self, i: u8, j: u8) -> u32
+        requires from { i < 8 }
+        requires to { j < 8 }
+        ensures { (setup : SetupParts) → self.now ≡ edges_of setup → result ≡ edge_weight setup i j }
+    {
+        self.weights.get(i as usize, j as usize) as u32
+    }
+
+    /// Whether threads may move along the edge from cluster `i` to cluster `j`. They may not along
+    /// a missing edge.
+    pub fn migrate(&self, i: u8, j: u8) -> bool
+        requires from { i < 8 }
+        requires to { j < 8 }
+        ensures { (setup : SetupParts) → self.now ≡ edges_of setup → result ≡ migrates setup i j }
+    {
+        self.migrates.get(i as usize, j as usize) == 1
+    }
+
+    /// The bucket indices that may be stolen along the edge from cluster `i` to cluster `j`, as
+    /// the bits of a number below 64; 0 for a missing edge.
+    pub fn steal(&self, i: u8, j: u8) -> u8
+        requires from { i < 8 }
+        requires to { j < 8 }
+        ensures mask { (setup : SetupParts) → self.now ≡ edges_of setup → result ≡ steal_mask setup i j }
+        ensures below { result < 64 }
+    {
+        self.steals.get(i as usize, j as usize) as u8
+    }
+
+    /// Whether a thread may enter cluster `c`: a bound one the cluster that it is bound to, and an
+    /// unbound one its preferred cluster and those that it may move to from there.
+    pub fn may_enter(&self, t: &Facts, c: u8) -> bool
+        requires preferred { t.now.prefer < 8 }
+        requires cluster { c < 8 }
+        ensures { (setup : SetupParts) → self.now ≡ edges_of setup → result ≡ may_enter setup t.now c }
+    {
+        match t.bound {
+            Some(bound) => c == bound,
+            None => c == t.prefer || self.migrate(t.prefer, c),
+        }
+    }
+
+    /// Whether cluster `c` may take a thread that is queued at cluster `j`: an unbound one that
+    /// prefers `c` where threads may move there, or whose bucket index is in the mask.
+    pub fn may_take(&self, j: u8, c: u8, mask: u8, t: &Facts) -> bool
+        requires from { j < 8 }
+        requires to { c < 8 }
+        ensures takes { (setup : SetupParts) → self.now ≡ edges_of setup → result ≡ may_take c (migrates setup j c) mask t.now }
+        // by the mask of the edge, as the cluster that offers is on or off
+        ensures offers { (setup : SetupParts) (s : Flat) → self.now ≡ edges_of setup → mask ≡ mask_between setup j c s.on → IsTrue result ↔ MayTake setup j c s t.now }
+    {
+        t.bound.is_none() && (self.migrate(j, c) && t.prefer == c || is_in_mask(mask, t.bucket))
+    }
+}
+
+/// Whether a mask has the bit of a bucket.
+fn is_in_mask(mask: u8, bucket: Bucket) -> bool
+    ensures { result ≡ mask_has mask bucket }
+{
+    mask >> bucket.index() & 1 == 1
+}
