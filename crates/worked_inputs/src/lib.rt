@@ -2,6 +2,7 @@
 #![tactic(auto)]
 
 ghost use Rattle.worked_inputs.specs.Inputs.{TracesReplayed, TracesStopped, RunsJudged, RunTexts};
+ghost use Rattle.worked_inputs.specs.Runs.{IdleTurns, LogOfOneThread, CrossedDoNotFit, ChoiceIsByLanes};
 
 /// Short traces, and what replay comes to.
 pub fn traces_replayed()
@@ -21,4 +22,24 @@ pub fn runs_judged()
 /// The lines of runs, written.
 pub fn run_texts()
     ensures { RunTexts }
+{}
+
+/// A turn that finds nothing is idle.
+pub fn idle_turns()
+    ensures { IdleTurns }
+{}
+
+/// A log has the entries of its history, and leaves its hand empty.
+pub fn log_of_one_thread()
+    ensures { LogOfOneThread }
+{}
+
+/// An order that fits some journals does not fit them crossed.
+pub fn crossed_do_not_fit()
+    ensures { CrossedDoNotFit }
+{}
+
+/// The choice by deadlines of a queue is that among its lanes with entries.
+pub fn choice_is_by_lanes()
+    ensures { ChoiceIsByLanes }
 {}
