@@ -1,7 +1,7 @@
 -- The best target by one pass over the clusters.
 use Rattle.std.proofs.Common.{◌≡◌, ℕ, Bool, true, false, cond, List, [], ◌∷◌, Option, Some, None, filter, fold, refl, sym, ap, ◌∙◌}
 use Rattle.std.specs.List.{cons_option, filter_map}
-use Rattle.flat_policy.specs.Aim.{Look, Target, lighter, look_at, movable, target_at, targets}
+use Rattle.flat_policy.specs.Aim.{Look, Target, lighter, look_at, target_at, targets}
 use Rattle.flat_policy.specs.IsSetup.{IsSetup}
 use Rattle.flat_policy.specs.Laws.Choice.{better}
 use Rattle.flat_policy.specs.Setup.{SetupParts, migrates, numbers_below}
@@ -25,7 +25,7 @@ cluster_first most false o best xs = refl
 cluster_first most true None best xs = refl
 cluster_first most true (Some x) best xs = kept_first (is_below most x.weighed) x best (filter (λ (x : Target). is_below most x.weighed) xs)
 
-filter_map-cond : (f : ℕ → Option Target) (b : Bool) (c : ℕ) (cs : List ℕ) → filter_map f (cond b (c ∷ cs) cs) ≡ cond b (cons_option (f c) (filter_map f cs)) (filter_map f cs)
+pub filter_map-cond : (f : ℕ → Option Target) (b : Bool) (c : ℕ) (cs : List ℕ) → filter_map f (cond b (c ∷ cs) cs) ≡ cond b (cons_option (f c) (filter_map f cs)) (filter_map f cs)
 filter_map-cond f true c cs = refl
 filter_map-cond f false c cs = refl
 

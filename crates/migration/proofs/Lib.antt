@@ -1,3 +1,4 @@
 pub mod Scans
 pub mod Movable
 pub mod Best
+pub mod Clusters

@@ -1,5 +1,5 @@
 -- The clusters that a thread may move to are among the first eight, and so are those that its aim needs.
-use Rattle.std.proofs.Common.{◌≡◌, ◌≢◌, ◌≤◌, ◌<◌, ◌+◌, ◌-◌, ◌⊎◌, ◌&&◌, ◌||◌, ◌==◌, ◌++◌, ℕ, zero, suc, Bool, true, false, cond, All, List, [], ◌∷◌, Option, Some, None, is_none, find, filter, refl, sym, ap, subst, arith, ◌∙◌, inl, inr}
+use Rattle.std.proofs.Common.{◌≡◌, ◌≢◌, ◌≤◌, ◌<◌, ◌+◌, ◌-◌, ◌⊎◌, ◌&&◌, ◌||◌, ◌==◌, ◌++◌, ℕ, zero, suc, Bool, true, false, cond, All, List, [], ◌∷◌, Option, Some, None, is_none, find, filter, refl, sym, ap, arith, ◌∙◌, inl, inr}
 use Rattle.std.specs.List.{list_any}
 use Rattle.std.specs.Option.{option_map_or}
 use Rattle.std.proofs.lemmas.Bool.{cases_Bool, cases_lt, false≢true}
@@ -12,7 +12,7 @@ use Rattle.flat_policy.proofs.Greatest.{filter_none}
 use Rattle.migration.specs.Looks.{lacks_look}
 use Rattle.migration.proofs.Scans.{find-filter}
 use Rattle.flat_policy.specs.IsSetup.{IsEdge, IsSetup}
-use Rattle.flat_policy.specs.Setup.{SetupParts, cluster_count, edge_between, migrates, numbers_below, numbers_from}
+use Rattle.flat_policy.specs.Setup.{SetupParts, cluster_count, migrates, numbers_below, numbers_from}
 
 -- an edge with other ends
 other_from : (from to i j : ℕ) → from ≢ i → ((from == i) && (to == j)) ≡ false

@@ -3,6 +3,7 @@
 //! All times are whole microseconds. No call here takes memory.
 #![tactic(auto)]
 
+pub mod laws;
 mod looks;
 
 pub use looks::Looks;

@@ -1,4 +1,4 @@
-use Rattle.std.proofs.Common.{Option, ap, arith, sym, ◌+◌, ◌-◌, ◌<◌, ◌∙◌, ◌≡◌, ◌≤◌}
+use Rattle.std.proofs.Common.{Option, ap, arith, sym, ◌+◌, ◌-◌, ◌∙◌, ◌≡◌}
 use Rattle.flat_policy.specs.Aim.{Target}
 use Rattle.flat_policy.specs.Setup.{numbers_from}
 use Rattle.migration.specs.Looks.{best_among, candidate_at, targeted, with_candidate}

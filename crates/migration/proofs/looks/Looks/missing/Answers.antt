@@ -1,4 +1,4 @@
-use Rattle.std.proofs.Common.{arith, sym, ◌<◌, ◌∙◌, ◌≤◌}
+use Rattle.std.proofs.Common.{arith, sym, ◌∙◌}
 use Rattle.migration.specs.Looks.{lacks_look}
 use Rattle.migration.proofs.Movable.{missing_none, missing_some}
 use Rattle.migration.proofs.Scans.{find_end, find_here, find_later}
