@@ -13,7 +13,8 @@ use Rattle.pairing_heap.proofs.Least.{held_first, not_before}
 use Rattle.pairing_heap.proofs.Size.{none_or_some}
 use Rattle.pairing_heap.proofs.Standing.{count_by-stands}
 use Rattle.pairing_heap.proofs.Taking.{root_of}
-use Rattle.thread_queue.specs.Item.{key_of_item, key_order, key_precedes}
+use Rattle.thread_queue.specs.Item.{key_of_item, key_precedes}
+use Rattle.thread_queue.specs.KeyOrder.{key_order}
 use Rattle.thread_queue.specs.Queue.{HasSlot, IsFirst, Queue, StandsIn}
 use Rattle.thread_queue.specs.declared.item.Item.{Item}
 use Rattle.thread_queue.specs.declared.item.ItemKey.{ItemKey}

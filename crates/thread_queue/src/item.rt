@@ -23,7 +23,8 @@ pub struct ItemKey {
 }
 
 impl HeapKey for ItemKey {
-    ghost use Rattle.thread_queue.specs.Item.{key_precedes, key_order};
+    ghost use Rattle.thread_queue.specs.Item.{key_precedes};
+    ghost use Rattle.thread_queue.specs.KeyOrder.{key_order};
 
     ghost precedes = { key_precedes };
 

@@ -31,6 +31,7 @@ impl ThreadQueue {
     pub fn new() -> ThreadQueue
         ensures empty { result ≡ record { root = None; count = 0 } }
         ensures stands { (arena : Map Stored) → StandsIn arena result }
+        ensures none { (arena : Map Stored) → members arena result ≡ [] }
     {
         ThreadQueue {
             heap: Heap::new(),
@@ -116,12 +117,6 @@ impl ThreadQueue {
         settle_item(arena, slot, usage, seen, pri);
         self.heap.push(arena, slot, steps);
     }
-
-    /// Makes no step: each slot of the queue holds an item.
-    pub fn slots_are_live(&self, _arena: &Arena<Item>)
-        requires { StandsIn _arena.now self.now }
-        ensures { (slot : ℕ) → HasSlot _arena.now self.now slot → IsLive _arena.now slot }
-    {}
 }
 
 // Settles the thread of a slot's item, and gives the item a priority. Links stay.
