@@ -59,12 +59,7 @@ impl ThreadQueue {
 
     /// Adds a slot, which holds an item and is in no queue, with one comparison at most and none where the queue is
     /// empty.
-    pub fn push<L: Ledger>(
-        &mut self,
-        arena: &mut Arena<Item>,
-        slot: u32,
-        steps: &mut Steps<L>,
-    )
+    pub fn push<L: Ledger>(&mut self, arena: &mut Arena<Item>, slot: u32, steps: &mut Steps<L>)
         requires stands { StandsIn arena.old self.old }
         requires live { IsLive arena.old slot }
         requires lacks { LacksSlot arena.old self.old slot }
@@ -79,12 +74,7 @@ impl ThreadQueue {
     }
 
     /// Takes a slot of the queue out, from anywhere. Its links of set 0 lead nowhere then.
-    pub fn remove<L: Ledger>(
-        &mut self,
-        arena: &mut Arena<Item>,
-        slot: u32,
-        steps: &mut Steps<L>,
-    )
+    pub fn remove<L: Ledger>(&mut self, arena: &mut Arena<Item>, slot: u32, steps: &mut Steps<L>)
         requires stands { StandsIn arena.old self.old }
         requires held { HasSlot arena.old self.old slot }
         ensures removes { Removes arena.old arena.new self.old self.new slot }
