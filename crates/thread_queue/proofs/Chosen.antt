@@ -1,5 +1,5 @@
 -- The first entry of a queue is the one that no other of its entries precedes.
-use Rattle.std.proofs.Common.{◌≡◌, ℕ, false, List, refl, sym, ap, ◌∙◌}
+use Rattle.std.proofs.Common.{◌≡◌, ℕ, false, List, sym, ap, ◌∙◌}
 use Rattle.flat_policy.specs.Precedence.{precedes}
 use Rattle.flat_policy.specs.Queue.{Queued}
 use Rattle.flat_policy.specs.Unpreceded.{IsUnpreceded}

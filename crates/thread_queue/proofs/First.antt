@@ -1,5 +1,5 @@
 -- The first slot of a queue is one whose entry no other precedes.
-use Rattle.std.proofs.Common.{◌≡◌, ℕ, ◌<◌, Bool, true, false, Option, Some, None, refl, sym, ap, subst, ◌∙◌, inl, inr, arith, IfSome}
+use Rattle.std.proofs.Common.{◌≡◌, ℕ, ◌<◌, Bool, false, Option, Some, None, refl, sym, ap, subst, ◌∙◌, inl, inr, arith, IfSome}
 use Rattle.std.proofs.lemmas.Bool.{cases_eq}
 use Rattle.std.specs.Prelude.{◌==◌}
 use Rattle.link_arena.specs.Arena.{Arena, links_at, value_at}
@@ -15,7 +15,7 @@ use Rattle.pairing_heap.proofs.Standing.{count_by-stands}
 use Rattle.pairing_heap.proofs.Taking.{root_of}
 use Rattle.thread_queue.specs.Item.{key_of_item, key_precedes}
 use Rattle.thread_queue.specs.KeyOrder.{key_order}
-use Rattle.thread_queue.specs.Queue.{HasSlot, IsFirst, Queue, StandsIn}
+use Rattle.thread_queue.specs.Queue.{IsFirst, Queue, StandsIn}
 use Rattle.thread_queue.specs.declared.item.Item.{Item}
 use Rattle.thread_queue.specs.declared.item.ItemKey.{ItemKey}
 

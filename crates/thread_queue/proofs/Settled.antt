@@ -1,9 +1,8 @@
 -- A slot is taken out, its item is settled, and it is pushed again.
-use Rattle.std.proofs.Common.{◌≡◌, ℕ, Option, Some, None, IsSome, length, refl, ap, ◌∙◌, arith, ◌∷◌}
+use Rattle.std.proofs.Common.{◌≡◌, ℕ, Option, Some, None, IsSome, refl, ap, ◌∙◌, arith, ◌∷◌}
 use Rattle.std.specs.Prelude.{◌==◌}
 use Rattle.link_arena.specs.Arena.{Arena, IsLive, Revalues, value_at}
 use Rattle.pairing_heap.specs.Heap.{AddsPair, TakesPair, key_of_value}
-use Rattle.pairing_heap.proofs.Adding.{key_from_live}
 use Rattle.pairing_heap.proofs.Rekeying.{Rekeys}
 use Rattle.pairing_heap.proofs.Standing.{count_by-more}
 use Rattle.thread_queue.specs.Item.{key_of_item, key_precedes, settled_item}

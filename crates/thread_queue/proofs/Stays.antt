@@ -1,12 +1,12 @@
 -- Queues stay where the arena changes elsewhere.
-use Rattle.std.proofs.Common.{◌≡◌, ◌≢◌, ℕ, ◌<◌, Option, Some, None, IsSome, is_some, refl, sym, ap, ◌∙◌, inl, inr, arith, length}
-use Rattle.link_arena.specs.Arena.{Arena, Inserts, Removes, SameElsewhere, value_at}
+use Rattle.std.proofs.Common.{◌≡◌, ◌≢◌, ℕ, Option, None, IsSome, is_some, sym, ap, ◌∙◌, inl, inr, arith, length}
+use Rattle.link_arena.specs.Arena.{Arena, Inserts, SameElsewhere, value_at}
 use Rattle.pairing_heap.specs.Heap.{SameSlots, key_of_value, times_of}
 use Rattle.pairing_heap.proofs.Size.{none_or_some}
 use Rattle.pairing_heap.proofs.Standing.{Stands-same}
 use Rattle.thread_queue.specs.Item.{key_of_item, key_precedes}
 use Rattle.thread_queue.specs.Laws.{StaysIn, StaysWithout}
-use Rattle.thread_queue.specs.Queue.{HasSlot, LacksSlot, Queue, StandsIn, members, times_in}
+use Rattle.thread_queue.specs.Queue.{HasSlot, LacksSlot, Queue, StandsIn, times_in}
 use Rattle.thread_queue.specs.declared.item.Item.{Item}
 use Rattle.thread_queue.proofs.Members.{live_in}
 
