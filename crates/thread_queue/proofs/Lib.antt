@@ -1,0 +1,5 @@
+pub mod First
+pub mod Members
+pub mod Settled
+pub mod Stays
+pub mod Chosen

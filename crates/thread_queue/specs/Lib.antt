@@ -1,0 +1,4 @@
+pub mod Item
+pub mod KeyOrder
+pub mod Queue
+pub mod Laws

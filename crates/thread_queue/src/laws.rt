@@ -1,0 +1,28 @@
+//! Laws of queues, for whatever holds an arena. Each is the contract of a function that does nothing.
+
+ghost use Rattle.thread_queue.specs.Laws.{SlotsAreLive, StaysWhereSlotsStay, StaysWhereInserted, StaysWhereRemoved, FirstIsChosen};
+
+/// Each slot of a queue holds an item.
+pub fn slots_are_live()
+    ensures { SlotsAreLive }
+{}
+
+/// A queue stays where its slots keep their keys and their links.
+pub fn stays_where_slots_stay()
+    ensures { StaysWhereSlotsStay }
+{}
+
+/// A queue stays where an item comes into the arena, and it has not the item's slot.
+pub fn stays_where_inserted()
+    ensures { StaysWhereInserted }
+{}
+
+/// A queue that has not the slot stays where the slot's item leaves the arena.
+pub fn stays_where_removed()
+    ensures { StaysWhereRemoved }
+{}
+
+/// The first entry of a queue is, among all its entries, the one that no other precedes.
+pub fn first_is_chosen()
+    ensures { FirstIsChosen }
+{}

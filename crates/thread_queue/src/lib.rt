@@ -1,0 +1,9 @@
+//! The stable queue of one unit: its slots, the one that goes first, and how many they are.
+#![tactic(auto)]
+
+mod item;
+pub mod laws;
+mod queue;
+
+pub use item::{Item, ItemKey};
+pub use queue::ThreadQueue;

@@ -1,0 +1,121 @@
+ghost use Rattle.std.specs.Prelude.{◌≡◌, ℕ, ◌+◌, ◌<◌, ◌≤◌, Some, None, ◌↔◌, IsNone, IfSome, []};
+ghost use Rattle.link_arena.specs.Arena.{Arena as Map, IsLive, value_at, Revalues};
+ghost use Rattle.thread_queue.specs.Item.{settled_item};
+ghost use Rattle.thread_queue.specs.declared.item.Item.{Item as Stored};
+ghost use Rattle.thread_queue.specs.Queue.{StandsIn, HasSlot, LacksSlot, IsFirst, Pushes, Removes, Settles, members};
+
+use crate::Item;
+use link_arena::Arena;
+use pairing_heap::{Heap, Steps};
+use std::marker::Model;
+use std::sync::ledger::Ledger;
+
+/// The queue of one unit, whose entries are slots of an arena of items, joined by its links of set 0.
+#[derive(Drop, Debug)]
+pub struct ThreadQueue {
+    heap: Heap<0>,
+    // How many slots the heap has.
+    count: u32,
+}
+
+impl Model for ThreadQueue {
+    ghost use Rattle.thread_queue.specs.Queue.{Queue};
+
+    ghost Value = { Queue };
+
+    ghost view = { λ q. record { root = q.heap; count = q.count } };
+}
+
+impl ThreadQueue {
+    /// A queue with no slot. It stands in every arena.
+    pub fn new() -> ThreadQueue
+        ensures empty { result ≡ record { root = None; count = 0 } }
+        ensures stands { (arena : Map Stored) → StandsIn arena result }
+        ensures none { (arena : Map Stored) → members arena result ≡ [] }
+    {
+        ThreadQueue {
+            heap: Heap::new(),
+            count: 0,
+        }
+    }
+
+    /// How many slots are in the queue, in each arena where it stands.
+    pub fn len(&self) -> u32
+        ensures { result ≡ self.now.count }
+    {
+        self.count
+    }
+
+    /// The slot whose entry no other of the queue precedes, and None exactly where the queue is empty, in each arena
+    /// where it stands. No comparison is made.
+    pub fn first(&self) -> Option<u32>
+        ensures root { result ≡ self.now.root }
+        ensures none { (arena : Map Stored) → StandsIn arena self.now → IsNone result ↔ (members arena self.now ≡ []) }
+        ensures empty { (arena : Map Stored) → StandsIn arena self.now → IsNone result ↔ (self.now.count ≡ 0) }
+        ensures first { (arena : Map Stored) → StandsIn arena self.now → IfSome result (λ slot. IsFirst arena self.now slot) }
+    {
+        self.heap.peek()
+    }
+
+    /// Adds a slot, which holds an item and is in no queue, with one comparison at most and none where the queue is
+    /// empty.
+    pub fn push<L: Ledger>(&mut self, arena: &mut Arena<Item>, slot: u32, steps: &mut Steps<L>)
+        requires stands { StandsIn arena.old self.old }
+        requires live { IsLive arena.old slot }
+        requires lacks { LacksSlot arena.old self.old slot }
+        requires room { self.old.count < 4096 }
+        ensures pushes { Pushes arena.old arena.new self.old self.new slot }
+        ensures ticks { steps.old ≤ steps.new }
+        ensures most { steps.new ≤ steps.old + 1 }
+        ensures first { self.old.root ≡ None → steps.new ≡ steps.old }
+    {
+        self.heap.push(arena, slot, steps);
+        self.count += 1;
+    }
+
+    /// Takes a slot of the queue out, from anywhere. Its links of set 0 lead nowhere then.
+    pub fn remove<L: Ledger>(&mut self, arena: &mut Arena<Item>, slot: u32, steps: &mut Steps<L>)
+        requires stands { StandsIn arena.old self.old }
+        requires held { HasSlot arena.old self.old slot }
+        ensures removes { Removes arena.old arena.new self.old self.new slot }
+        ensures ticks { steps.old ≤ steps.new }
+    {
+        self.heap.remove(arena, slot, steps);
+        self.count -= 1;
+    }
+
+    /// Settles the thread of a slot of the queue at the moment `seen` (microseconds), with `usage` (microseconds), and
+    /// gives its item the priority `pri`. The slot stays in the queue, at the place that goes with the priority, with
+    /// its number and its arrival.
+    ///
+    /// Keys of link set 1 may change with the item, so the slot is to be in no heap of that set.
+    pub fn settle<L: Ledger>(
+        &mut self,
+        arena: &mut Arena<Item>,
+        slot: u32,
+        usage: u32,
+        seen: u64,
+        pri: u8,
+        steps: &mut Steps<L>,
+    )
+        requires stands { StandsIn arena.old self.old }
+        requires held { HasSlot arena.old self.old slot }
+        ensures settles { Settles arena.old arena.new self.old self.new slot usage seen pri }
+        ensures ticks { steps.old ≤ steps.new }
+    {
+        self.heap.remove(arena, slot, steps);
+        settle_item(arena, slot, usage, seen, pri);
+        self.heap.push(arena, slot, steps);
+    }
+}
+
+// Settles the thread of a slot's item, and gives the item a priority. Links stay.
+fn settle_item(arena: &mut Arena<Item>, slot: u32, usage: u32, seen: u64, pri: u8)
+    requires { IsLive arena.old slot }
+    ensures revalues { (item : Stored) → value_at arena.old slot ≡ Some item → Revalues arena.old arena.new slot (settled_item usage seen pri item) }
+    ensures spare { arena.new.spare ≡ arena.old.spare }
+{
+    let item = arena.get_mut(slot);
+    item.thread.settle(usage, seen);
+    item.pri = pri;
+}
