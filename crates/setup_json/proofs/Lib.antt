@@ -1,0 +1,5 @@
+pub mod Items
+pub mod Joins
+pub mod Json
+pub mod Meanings
+pub mod OfLine
