@@ -1,5 +1,5 @@
 -- The items of an array, read one after another.
-use Rattle.std.proofs.Common.{◌≡◌, ◌≢◌, ℕ, ◌+◌, ◌<◌, ◌≤◌, List, [], ◌∷◌, ◌++◌, length, drop, take, get_or, Option, Some, None, option_map, option_and_then, IfSome, refl, sym, ◌∙◌, ap, append_assoc, add-one, arith, drop-cons, suc, zero, eqb, true, false, cond, rules}
+use Rattle.std.proofs.Common.{◌≡◌, ◌≢◌, ℕ, ◌+◌, ◌<◌, ◌≤◌, List, [], ◌∷◌, ◌++◌, length, drop, get_or, Option, Some, None, option_map, option_and_then, IfSome, refl, sym, ◌∙◌, ap, append_assoc, add-one, arith, drop-cons, suc}
 use Rattle.std.proofs.lemmas.List.{append-nil, drop_all}
 use Rattle.flat_policy.specs.Texts.SetupLines.{cons_if, each_item, with_length}
 use Rattle.serde_json.specs.Data.{Data}

@@ -1,9 +1,12 @@
 -- Texts in brackets, with commas between them, one after another.
-use Rattle.std.proofs.Common.{◌≡◌, ℕ, zero, suc, ◌+◌, ◌<◌, ◌≤◌, List, [], ◌∷◌, ◌++◌, length, take, get_or, map, cond, refl, sym, ◌∙◌, ap, append_assoc, add-one, arith, take_all, rules}
-use Rattle.std.proofs.lemmas.List.{append-nil}
+use Rattle.std.proofs.Common.{◌≡◌, ℕ, zero, suc, ◌+◌, ◌<◌, ◌≤◌, List, [], ◌∷◌, ◌++◌, length, take, get_or, map, cond, refl, sym, ◌∙◌, ap, append_assoc, add-one, arith, take_all}
+use Rattle.std.proofs.Math.Dec.{eqb-suc-zero}
 use Rattle.std.specs.List.{join_with_byte}
 use Rattle.flat_policy.specs.Texts.SetupLines.{bracketed}
 use Rattle.setup_json.specs.Writes.{comma_before}
+
+comma_later : (k : ℕ) → comma_before (suc k) ≡ 44 ∷ []
+comma_later k = ap (λ b. cond b [] (44 ∷ [])) (eqb-suc-zero k)
 
 -- one text more
 joined_more : (texts : List (List ℕ)) (k : ℕ) → k < length texts
@@ -14,8 +17,10 @@ joined_more (t ∷ []) (suc k) h = absurd (omega arith)
 joined_more (t ∷ u ∷ ts) zero h = refl
 joined_more (t ∷ u ∷ ts) (suc zero) h = refl
 joined_more (t ∷ u ∷ ts) (suc (suc k)) h =
-    ap (λ rest. t ++ (44 ∷ rest)) (joined_more (u ∷ ts) (suc k) (omega arith))
-    ∙ sym (append_assoc t (44 ∷ join_with_byte 44 (u ∷ take k ts)) (44 ∷ get_or ts k []))
+    let begun = join_with_byte 44 (u ∷ take k ts) in
+    ap (λ (rest : List ℕ). t ++ (44 ∷ rest)) (joined_more (u ∷ ts) (suc k) (omega arith))
+    ∙ ap (λ (comma : List ℕ). t ++ (44 ∷ (begun ++ (comma ++ get_or ts k [])))) (comma_later k ∙ sym (comma_later (suc k)))
+    ∙ sym (append_assoc t (44 ∷ begun) (comma_before (suc (suc k)) ++ get_or ts k []))
 
 -- what is written once k of the texts are, behind what stood there
 pub record IsBegun (old : List ℕ) (texts : List (List ℕ)) (k : ℕ) (new : List ℕ) : Type 0 where

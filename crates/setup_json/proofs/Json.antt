@@ -1,5 +1,5 @@
 -- The JSON value of a line.
-use Rattle.std.proofs.Common.{◌≡◌, List, ℕ, Option, Some, None, Result, Ok, Err, Bool, true, false, IsUtf8, cond, refl, sym, ◌∙◌, ap}
+use Rattle.std.proofs.Common.{◌≡◌, List, ℕ, Option, Some, None, Ok, Bool, true, false, IsUtf8, cond, refl, ◌∙◌, ap}
 use Rattle.std.proofs.lemmas.Str.{IsUtf8-from_is_utf8, is_utf8-from_IsUtf8}
 use Rattle.std.specs.Str.{is_utf8}
 use Rattle.flat_policy.specs.Texts.SetupLines.{json_of, setup_of_json, setup_of_members}

@@ -3,3 +3,4 @@ pub mod Joins
 pub mod Json
 pub mod Meanings
 pub mod OfLine
+pub mod Written

@@ -1,5 +1,5 @@
 -- What the readers' results say of the meaning.
-use Rattle.std.proofs.Common.{◌≡◌, ◌≢◌, ℕ, List, [], ◌∷◌, Option, Some, None, Result, Ok, Err, IfOk, Bool, true, false, ◌&&◌, ◌||◌, cond, bytes_eq, string_bytes, eqb, map, refl, sym, ◌∙◌, ap, String, Global, codes}
+use Rattle.std.proofs.Common.{◌≡◌, ℕ, List, [], ◌∷◌, Option, Some, None, Result, Ok, Err, ◌&&◌, bytes_eq, string_bytes, eqb, map, refl, sym, ◌∙◌, ap, String, Global}
 use Rattle.std.specs.List.{list_all}
 use Rattle.flat_policy.specs.BuildFaults.{field_named}
 use Rattle.flat_policy.specs.Ranges.{first_out_of_range, first_out_of_range_timed, parts_of, parts_of_timed}
@@ -9,10 +9,10 @@ use Rattle.flat_policy.specs.Texts.SetupLines.{SetupNumbers, in_range, is_key, o
 use Rattle.flat_policy.specs.declared.setup.BuildError.{BuildError}
 use Rattle.flat_policy.specs.declared.setup.Field.{Field}
 use Rattle.flat_policy.specs.declared.texts.SetupFault.{SetupFault}
-use Rattle.serde_json.specs.View.{members_view, view}
+use Rattle.serde_json.specs.View.{members_view}
 use Rattle.serde_json.specs.declared.value.Value.{Value}
 use Rattle.setup_json.specs.Numbers.{names_field}
-use Rattle.setup_json.specs.Reads.{Fails, Reads, error_of_build}
+use Rattle.setup_json.specs.Reads.{Fails, error_of_build}
 use Rattle.setup_json.specs.declared.fault.SetupError.{SetupError}
 use Rattle.flat_policy.specs.declared.setup.BuildError.TheVariants as build_errors
 use Rattle.setup_json.specs.declared.fault.SetupError.TheVariants as errors
@@ -44,7 +44,7 @@ is_built : (s : SetupParts) (first : Option Field) (parts : SetupParts) → fiel
 is_built s first parts h is = ap (λ f. in_range f parts) (sym h) ∙ ap (λ (p : SetupParts). Ok p) (sym is)
 
 same_three : {A B : Type 0} → (f : A → A → A → B) (a b c x y z : A) → a ≡ x → b ≡ y → c ≡ z → f a b c ≡ f x y z
-same_three f a b c x y z p q r = ap (λ (v : A). f v b c) p ∙ ap (λ (v : A). f x v c) q ∙ ap (λ (v : A). f x y v) r
+same_three {A = A} f a b c x y z p q r = ap (λ (v : A). f v b c) p ∙ ap (λ (v : A). f x v c) q ∙ ap (λ (v : A). f x y v) r
 
 -- what building answers of the rows of some numbers, for each version
 abbrev Rows : Type 0

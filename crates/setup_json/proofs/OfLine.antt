@@ -1,5 +1,5 @@
 -- No line has a fault of where it ends.
-use Rattle.std.proofs.Common.{◌≡◌, List, ℕ, Option, Some, None, Result, Ok, Err, IfErr, Bool, true, false, codes, cond, option_and_then, subst}
+use Rattle.std.proofs.Common.{List, ℕ, Option, Some, None, Result, Ok, Err, IfErr, Bool, true, false, codes, cond, option_and_then, subst}
 use Rattle.flat_policy.specs.Ranges.{first_out_of_range, first_out_of_range_timed, parts_of, parts_of_timed}
 use Rattle.flat_policy.specs.Setup.{SetupParts}
 use Rattle.flat_policy.specs.Texts.SetupLines.{SetupNumbers, field_of, in_range, is_version_two, json_of, numbers_of, only_keys, read_setup_text, rows_of, setup_of, setup_of_json, setup_of_members, setup_of_object, shaped, times_field, times_of_other, times_rows, unless_fault, whole_number}
@@ -45,7 +45,7 @@ of_other_times (Some d) = record { is = tt }
 of_times : (ms : Members) → Sure (times_field ms)
 of_times ms =
     let rows = field_of fields.Times (codes "times") times_rows ms in
-    let found = λ (r : List (List (List ℕ))). Ok {A = TimesFound} {E = SetupFault} (Some r) in
+    let found : List (List (List ℕ)) → Result TimesFound SetupFault = λ r. Ok (Some r) in
     of_choice (is_version_two ms) (unless_fault rows found) (times_of_other (get_member (codes "times") ms))
     (of_next rows found (of_shape fields.Times (option_and_then times_rows (get_member (codes "times") ms))) (λ r. of_ok {A = TimesFound} (Some r)))
     (of_other_times (get_member (codes "times") ms))

@@ -2,7 +2,7 @@
 
 use flat_policy::setup::{BuildError, Field};
 use flat_policy::texts::SetupFault;
-use std::alloc::{AllocError, AllocFailed};
+use std::alloc::AllocError;
 
 /// Why a setup line is not read.
 #[derive(Clone, Copy, Debug, Drop, PartialEq, Eq, thiserror::Error)]
@@ -22,17 +22,6 @@ impl From<AllocError> for SetupError {
     ghost from_gives = { λ _ e. e ≡ Memory };
 
     fn from(_e: AllocError) -> SetupError {
-        SetupError::Memory
-    }
-}
-
-impl<T: Drop> From<AllocFailed<T>> for SetupError {
-    ghost use Rattle.std.specs.Prelude.{◌≡◌};
-    ghost use Rattle.setup_json.specs.declared.fault.SetupError.TheVariants.{Memory};
-
-    ghost from_gives = { λ _ e. e ≡ Memory };
-
-    fn from(_e: AllocFailed<T>) -> SetupError {
         SetupError::Memory
     }
 }

@@ -94,11 +94,7 @@ fn setup_of_one(alloc: Global, numbers: &Numbers) -> Result<Setup, SetupError>
 }
 
 /// A setup of version 2.
-fn setup_of_two(
-    alloc: Global,
-    numbers: &Numbers,
-    times: &[TimesRows],
-) -> Result<Setup, SetupError>
+fn setup_of_two(alloc: Global, numbers: &Numbers, times: &[TimesRows]) -> Result<Setup, SetupError>
     ensures { Reads (λ s. s) result (setup_of (numbers_said numbers.now) (Some times.now)) }
 {
     match Setup::build_timed(

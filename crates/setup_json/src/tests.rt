@@ -4,11 +4,14 @@ use super::*;
 use flat_policy::setup::Field;
 use std::test::Fail;
 
-const ONE: &str = "{\"clusters\":[[1,1000]],\"edges\":[],\"groups\":[[0,0,0,0,0,0]],\"threads\":8,\"version\":1}";
+const ONE: &str =
+    "{\"clusters\":[[1,1000]],\"edges\":[],\"groups\":[[0,0,0,0,0,0]],\"threads\":8,\"version\":1}";
 
-const TWO: &str = "{\"clusters\":[[1,1000],[1,400]],\"edges\":[[0,1,8000,1,16],[1,0,10000000,0,63]],\"groups\":[[0,0,0,0,0,0],[1,0,1,0,1,0]],\"threads\":4096,\"version\":1}";
+const TWO: &str =
+    "{\"clusters\":[[1,1000],[1,400]],\"edges\":[[0,1,8000,1,16],[1,0,10000000,0,63]],\"groups\":[[0,0,0,0,0,0],[1,0,1,0,1,0]],\"threads\":4096,\"version\":1}";
 
-const TIMED: &str = "{\"clusters\":[[1,1000]],\"edges\":[],\"groups\":[[0,0,0,0,0,0]],\"threads\":8,\"times\":[[[0,0,37500,75000,150000,250000],[0,0,4000,2000,1000,0],[10000,10000,8000,6000,4000,2000]]],\"version\":2}";
+const TIMED: &str =
+    "{\"clusters\":[[1,1000]],\"edges\":[],\"groups\":[[0,0,0,0,0,0]],\"threads\":8,\"times\":[[[0,0,37500,75000,150000,250000],[0,0,4000,2000,1000,0],[10000,10000,8000,6000,4000,2000]]],\"version\":2}";
 
 #[test]
 fn setups_are_written_as_their_canonical_text(rt: HostRuntime) -> Result<(), Fail> {

@@ -11,5 +11,5 @@ pub returns : goal.returns
 returns c =
     let exact : Reads (λ (s : SetupParts). s) c.setup_of_value.result (read_setup_text c.args.line.now) =
     subst (λ (m : Result SetupParts SetupFault). Reads (λ (s : SetupParts). s) c.setup_of_value.result m)
-        (sym (json_goes_on (json_of c.args.line.now) _ c.in_ok-value.ensures)) c.setup_of_value.ensures in
+    (sym (json_goes_on (json_of c.args.line.now) _ c.in_ok-value.ensures)) c.setup_of_value.ensures in
     record { exact = exact; of_line = never_at_end c.args.line.now c.setup_of_value.result exact }

@@ -1,4 +1,4 @@
-use Rattle.std.proofs.Common.{rules, arith, sym, ◌∙◌, subst, take, length, drop, List, ◌≡◌, ◌≢◌, ◌<◌, ◌≤◌, ◌++◌, ◌∷◌, [], Some, ℕ, ◌+◌, take_all}
+use Rattle.std.proofs.Common.{rules, arith, sym, ◌∙◌, subst, take, length, List, ◌≡◌, ◌<◌, ◌≤◌, Some, ℕ, ◌+◌, take_all}
 use Rattle.std.proofs.lemmas.List.{take_more_set, length-set}
 use Rattle.flat_policy.specs.Texts.SetupLines.{each_item, whole_number}
 use Rattle.serde_json.specs.View.{items_view, view}
@@ -15,7 +15,7 @@ loop-k-preserved g c =
     let within : c.loop-k.k < length c.loop-k.row = omega arith in
     let among : c.loop-k.k < length xs = omega arith in
     let more = front_more whole_number xs c.loop-k.k (take c.loop-k.k c.loop-k.row) c.index-items-k.result c.in_ok-row.field-0
-        c.loop-k.invariant.front among c.index-items-k.is found in
+    c.loop-k.invariant.front among c.index-items-k.is found in
     record {
       count = length-set c.loop-k.row c.loop-k.k c.in_ok-row.field-0 ∙ c.loop-k.invariant.count;
       front = subst (λ (front : List ℕ). IsFront whole_number xs (c.loop-k.k + 1) front)

@@ -1,5 +1,4 @@
 use Rattle.std.proofs.Common.{decimal, map}
-
 use Rattle.setup_json.proofs.Joins.{IsBegun}
 use Rattle.setup_json.proofs.writer.push_numbers.Given as goal
 
