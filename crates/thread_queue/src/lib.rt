@@ -4,6 +4,8 @@
 mod item;
 pub mod laws;
 mod queue;
+#[cfg(test)]
+mod tests;
 
 pub use item::{Item, ItemKey};
 pub use queue::ThreadQueue;
