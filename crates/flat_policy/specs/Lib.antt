@@ -19,11 +19,9 @@ pub mod ClusterSteps
 pub mod Machine
 pub mod WindowLaws
 pub mod Laws
-pub mod Rows
 pub mod Places
 pub mod Own
 pub mod Interleaving
 pub mod Worker
 pub mod Texts
 pub mod Load
-pub mod Examples

@@ -13,6 +13,7 @@ mod ranges;
 use bucket_tables::Table;
 use sched_base::{Act, Bucket, Step};
 use std::alloc::AllocError;
+use std::fmt;
 use std::marker::Model;
 
 /// The three times of a bucket in a cluster, in microseconds.
@@ -46,11 +47,25 @@ pub enum Field {
     Version,
 }
 
+impl fmt::Display for Field {
+    fn fmt<W: fmt::Write>(&self, f: &mut fmt::Formatter<W>) -> fmt::Result {
+        f.write_str(match self {
+            Field::Whole => "whole",
+            Field::Clusters => "clusters",
+            Field::Edges => "edges",
+            Field::Groups => "groups",
+            Field::Threads => "threads",
+            Field::Times => "times",
+            Field::Version => "version",
+        })
+    }
+}
+
 /// Why a setup is not built.
 #[derive(Clone, Copy, Debug, PartialEq, Eq, thiserror::Error)]
 pub enum BuildError {
     /// The first field out of its range.
-    #[error("{0:?} is out of range")]
+    #[error("range of {0}")]
     Range(Field),
     /// Want of memory.
     #[error("out of memory")]

@@ -24,17 +24,22 @@ pub enum LineFault {
 }
 
 /// The first fault of the setup line.
-#[derive(Clone, Copy, Debug, Drop, PartialEq, Eq)]
+#[derive(Clone, Copy, Debug, Drop, PartialEq, Eq, thiserror::Error)]
 pub enum SetupFault {
     /// More than 65,536 bytes without a newline.
+    #[error("long")]
     Long,
     /// The input ends in the line.
+    #[error("unfinished")]
     Unfinished,
     /// It has no reading as JSON.
+    #[error("not json")]
     NotJson,
     /// The field hasn't its shape.
+    #[error("shape of {0}")]
     Shape(Field),
     /// The field is out of its range.
+    #[error("range of {0}")]
     Range(Field),
 }
 

@@ -8,7 +8,7 @@ use std::alloc::AllocError;
 #[derive(Clone, Copy, Debug, Drop, PartialEq, Eq, thiserror::Error)]
 pub enum SetupError {
     /// The line's first fault.
-    #[error("{0:?}")]
+    #[error("{0}")]
     Fault(SetupFault),
     /// Want of memory.
     #[error("out of memory")]

@@ -1,8 +1,0 @@
--- The numbers' digits compute.
-use Rattle.std.proofs.Common.{rules}
-use Rattle.std.specs.Fmt.{digits}
-use Rattle.flat_policy.proofs.examples.judgements.Goals as goal
-
-pub returns : goal.returns
-unfolding digits
-returns c = search rules

@@ -1,0 +1,8 @@
+-- The numbers' digits compute.
+use Rattle.std.proofs.Common.{rules}
+use Rattle.std.specs.Fmt.{digits}
+use Rattle.worked_examples.proofs.examples.line_texts.Goals as goal
+
+pub returns : goal.returns
+unfolding digits
+returns c = search rules

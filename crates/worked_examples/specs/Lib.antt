@@ -1,0 +1,4 @@
+pub mod Rows
+pub mod Examples
+pub mod Inputs
+pub mod Runs

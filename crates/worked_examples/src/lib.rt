@@ -1,0 +1,6 @@
+//! Worked examples of the definitions, as theorems: each definition computes to what the example shows.
+#![tactic(auto)]
+
+pub mod examples;
+pub mod inputs;
+pub mod rows;
