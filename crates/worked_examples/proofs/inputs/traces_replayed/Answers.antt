@@ -3,7 +3,7 @@ use Rattle.std.proofs.Common.{rules}
 use Rattle.std.specs.Fmt.{digits}
 use Rattle.std.specs.Str.{chars, is_utf8}
 use Rattle.serde_json.proofs.OnLiterals.{serde_json_on_literals}
-use Rattle.worked_examples.proofs.traces_replayed.Goals as goal
+use Rattle.worked_examples.proofs.inputs.traces_replayed.Goals as goal
 
 pub returns : goal.returns
 unfolding chars digits is_utf8 serde_json_on_literals
