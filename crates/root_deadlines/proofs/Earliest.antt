@@ -1,16 +1,17 @@
 -- One pass over the ten lanes finds the filled lane that is due first.
-use Rattle.std.proofs.Common.{◌≡◌, ◌↔◌, ℕ, Bool, true, false, cond, List, [], ◌∷◌, length, map, fold, Option, None, Some, option_map, IsNone, refl, sym, ap, ◌∙◌, subst, arith}
+use Rattle.std.proofs.Common.{◌≡◌, ◌↔◌, ◌&&◌, ◌||◌, ◌==◌, nat_lt, ℕ, Bool, true, false, cond, List, [], ◌∷◌, length, map, fold, Option, None, Some, option_map, IsNone, refl, sym, ap, ◌∙◌, subst, arith}
 use Rattle.std.specs.Prelude.{slice_index, slice_index_or}
-use Rattle.std.proofs.lemmas.Bool.{true≢false}
+use Rattle.std.specs.List.{list_all}
+use Rattle.std.proofs.lemmas.Bool.{and_parts, true≢false}
 use Rattle.bucket_tables.specs.declared.Lane.{Lane}
 use Rattle.flat_policy.specs.Queue.{LaneWindow, timeshare_lanes}
-use Rattle.flat_policy.specs.Windows.{due_before, earliest_of}
+use Rattle.flat_policy.specs.Windows.{due_before, earliest_of, stands_higher}
 use Rattle.root_deadlines.specs.declared.lanes.Due.{Due}
 use Rattle.root_deadlines.specs.Lanes.{AreWindowsOf, filled_among}
 use Rattle.root_deadlines.specs.Places.{place_of}
-use Rattle.root_deadlines.specs.Sooner.{due_sooner, sooner_of, sooner_with}
+use Rattle.root_deadlines.specs.Sooner.{sooner_of, sooner_with}
 use Rattle.root_deadlines.proofs.Least.{better_of, by_pass}
-use Rattle.root_deadlines.proofs.Ranks.{due_by_key, key}
+use Rattle.root_deadlines.proofs.Ranks.{due_by_key, in_order, key, not_back}
 use Rattle.root_deadlines.proofs.Tens.{by_ten}
 
 -- the pass that the code makes
@@ -51,19 +52,50 @@ lanes_of [] ds same = refl
 lanes_of (l ∷ ls) [] same = absurd (omega arith)
 lanes_of (l ∷ ls) (d ∷ ds) same = ap (λ ms. l ∷ ms) (lanes_of ls ds (omega arith))
 
--- one step over windows
-step_of : (a : Option LaneWindow) (w : LaneWindow) → sooner_of (option_map due_of a) (due_of w) ≡ option_map due_of (better_of due_before a w)
-step_of None w = refl
-step_of (Some x) w =
-    elim (due_before w x) as (λ b. cond b (Some (due_of w)) (Some (due_of x)) ≡ option_map due_of (cond b (Some w) (Some x))) [ true ↦ refl | false ↦ refl ]
+-- one step over windows that come in their order
+abbrev after : Option LaneWindow → List Lane → Bool
+after None ls = true
+after (Some x) ls = list_all (stands_higher x.lane) ls
+
+after_tail : (a : Option LaneWindow) (l : Lane) (ls : List Lane) → after a (l ∷ ls) ≡ true → after a ls ≡ true
+after_tail None l ls h = refl
+after_tail (Some x) l ls h = (and_parts (stands_higher x.lane l) (list_all (stands_higher x.lane) ls) h).1
+
+after_step : (a : Option LaneWindow) (w : LaneWindow) (ls : List Lane) → after a (w.lane ∷ ls) ≡ true → list_all (stands_higher w.lane) ls ≡ true
+    → after (better_of due_before a w) ls ≡ true
+after_step None w ls h rest = rest
+after_step (Some x) w ls h rest =
+    elim (due_before w x) as (λ b. after (cond b (Some w) (Some x)) ls ≡ true) [ true ↦ rest | false ↦ after_tail (Some x) w.lane ls h ]
+
+first_alone : (a b : Bool) → (a || (b && false)) ≡ a
+first_alone true b = refl
+first_alone false true = refl
+first_alone false false = refl
+
+step_of : (a : Option LaneWindow) (w : LaneWindow) (ls : List Lane) → after a (w.lane ∷ ls) ≡ true
+    → sooner_of (option_map due_of a) (due_of w) ≡ option_map due_of (better_of due_before a w)
+step_of None w ls h = refl
+step_of (Some x) w ls h =
+    let later = not_back x.lane w.lane (and_parts (stands_higher x.lane w.lane) (list_all (stands_higher x.lane) ls) h).0 in
+    let by_deadline : due_before w x ≡ nat_lt w.deadline x.deadline =
+    ap (λ b. nat_lt w.deadline x.deadline || ((w.deadline == x.deadline) && b)) later
+    ∙ first_alone (nat_lt w.deadline x.deadline) (w.deadline == x.deadline) in
+    ap (λ b. cond b (Some (due_of w)) (Some (due_of x))) (sym by_deadline)
+    ∙ elim (due_before w x) as (λ b. cond b (Some (due_of w)) (Some (due_of x)) ≡ option_map due_of (cond b (Some w) (Some x))) [ true ↦ refl | false ↦ refl ]
 
 over_windows : (fs : List Bool) (ws : List LaneWindow) (a : Option LaneWindow)
+    → after a (map (λ (w : LaneWindow). w.lane) ws) ≡ true → in_order (map (λ (w : LaneWindow). w.lane) ws) ≡ true
     → over fs (map due_of ws) (option_map due_of a) ≡ option_map due_of (fold (better_of due_before) a (filled_among fs ws))
-over_windows [] ws a = refl
-over_windows (f ∷ fs) [] a = refl
-over_windows (true ∷ fs) (w ∷ ws) a =
-    ap (λ b. over fs (map due_of ws) b) (step_of a w) ∙ over_windows fs ws (better_of due_before a w)
-over_windows (false ∷ fs) (w ∷ ws) a = over_windows fs ws a
+over_windows [] ws a later order = refl
+over_windows (f ∷ fs) [] a later order = refl
+over_windows (true ∷ fs) (w ∷ ws) a later order =
+    let ls = map (λ (v : LaneWindow). v.lane) ws in
+    let parts = and_parts (list_all (stands_higher w.lane) ls) (in_order ls) order in
+    ap (λ b. over fs (map due_of ws) b) (step_of a w ls later)
+    ∙ over_windows fs ws (better_of due_before a w) (after_step a w ls later parts.0) parts.1
+over_windows (false ∷ fs) (w ∷ ws) a later order =
+    let ls = map (λ (v : LaneWindow). v.lane) ws in
+    over_windows fs ws a (after_tail a w.lane ls later) (and_parts (list_all (stands_higher w.lane) ls) (in_order ls) order).1
 
 lane_of_due : (a : Option LaneWindow) → option_map (λ (d : Due). d.lane) (option_map due_of a) ≡ option_map (λ (e : LaneWindow). e.lane) a
 lane_of_due None = refl
@@ -78,7 +110,7 @@ earliest_is fs ds flags numbers ws are =
     ∙ ap (λ ls. over fs (dues ls ds) None) (sym are.lanes)
     ∙ ap (λ es. over fs (dues (map (λ (w : LaneWindow). w.lane) ws) es) None) (sym are.deadlines)
     ∙ ap (λ es. over fs es None) (dues_of ws)
-    ∙ over_windows fs ws None)
+    ∙ over_windows fs ws None refl (ap in_order are.lanes))
     ∙ lane_of_due (fold (better_of due_before) None (filled_among fs ws))
     ∙ ap (λ o. option_map (λ (e : LaneWindow). e.lane) o) (sym (by_pass due_before key due_by_key (filled_among fs ws)))
 
@@ -87,7 +119,7 @@ found_stays : (fs : List Bool) (ds : List Due) (x : Due) → IsNone (over fs ds 
 found_stays [] ds x none = true≢false none
 found_stays (f ∷ fs) [] x none = true≢false none
 found_stays (true ∷ fs) (d ∷ ds) x none =
-    elim (due_sooner d x) as (λ b. IsNone (over fs ds (cond b (Some d) (Some x))) → ⊥) [ true ↦ found_stays fs ds d | false ↦ found_stays fs ds x ] none
+    elim (nat_lt d.deadline x.deadline) as (λ b. IsNone (over fs ds (cond b (Some d) (Some x))) → ⊥) [ true ↦ found_stays fs ds d | false ↦ found_stays fs ds x ] none
 found_stays (false ∷ fs) (d ∷ ds) x none = found_stays fs ds x none
 
 none_over : (fs : List Bool) (ds : List Due) → IsNone (over fs ds None) ↔ (filled_among fs (map (λ (d : Due). d.lane) ds) ≡ [])

@@ -1,14 +1,15 @@
 -- The flags of a bitmap: what is read at a lane's place, and after the bit of a lane is set or cleared.
-use Rattle.std.proofs.Common.{◌≡◌, ℕ, ◌<◌, ◌-◌, ◌*◌, ◌^◌, ◌%◌, ◌/◌, ◌==◌, Bool, true, false, cond, map, refl, sym, ap, ◌∙◌, arith, inl, inr, eq-eqb, ne_eqb}
+use Rattle.std.proofs.Common.{◌≡◌, ℕ, ◌<◌, ◌-◌, ◌*◌, ◌^◌, ◌%◌, ◌/◌, ◌==◌, Bool, true, false, ◌&&◌, cond, map, min, nat_lt, refl, sym, ap, ◌∙◌, arith, inl, inr, eq-eqb, le-ltb, lt-ltb, ne_eqb}
 use Rattle.std.specs.Prelude.{bit_and, bit_or, slice_index_or, slice_set}
-use Rattle.std.specs.Int.{w16}
-use Rattle.std.proofs.lemmas.Bool.{cases_eq}
-use Rattle.std.proofs.lemmas.Nat.Bits.{bit_at_clear_other, bit_at_clear_same, bit_at_set_other, bit_at_set_same, shr_and_one}
+use Rattle.std.specs.Int.{bit_at, w16}
+use Rattle.std.proofs.lemmas.Bool.{cases_eq, cases_lt}
+use Rattle.std.proofs.lemmas.Nat.Bits.{bit_at-lt, bit_at_and, bit_at_clear_other, bit_at_clear_same, bit_at_ones, bit_at_ones_above, bit_at_set_other, bit_at_set_same, shr_and_one}
 use Rattle.sched_base.specs.declared.buckets.Bucket.{Bucket}
 use Rattle.sched_base.specs.declared.buckets.Bucket.TheVariants.{Bg, Df, Fg, Ini, Ui, Ut}
-use Rattle.flat_policy.specs.Queue.{lane}
+use Rattle.flat_policy.specs.Queue.{lane, timeshare_lanes}
 use Rattle.root_deadlines.specs.Bits.{flag_at, flags_of, places}
-use Rattle.root_deadlines.specs.Places.{place_of}
+use Rattle.root_deadlines.specs.Lanes.{higher_than}
+use Rattle.root_deadlines.specs.Places.{bound_place, place_of}
 
 -- a number with one bit set, and with one bit cleared, as the code computes them
 abbrev pub with_bit : ℕ → ℕ → ℕ
@@ -103,3 +104,38 @@ flag_is n Bg false = refl
 pub read_is : (n : ℕ) (b : Bucket) (bound : Bool) (p : ℕ) → p ≡ place_of (lane b bound)
     → (bit_and (n / 2 ^ p) 1 == 1) ≡ slice_index_or (flags_of n) (place_of (lane b bound)) false
 read_is n b bound p at = ap (λ v. v == 1) (shr_and_one n p) ∙ ap (λ k. flag_at n k) at ∙ sym (flag_is n b bound)
+
+-- the flags of the bits below k
+below_flag : (n k j : ℕ) → flag_at (bit_and n (2 ^ k - 1)) j ≡ (flag_at n j && nat_lt j k)
+below_flag n k j =
+    elim (cases_lt j k) [
+      | inl l ↦ ap (λ b. b == 1) (bit_at_and n (2 ^ k - 1) j ∙ ap (min (bit_at n j)) (bit_at_ones k j l) ∙ low)
+          ∙ sym (ap (λ b. flag_at n j && b) (lt-ltb j k l) ∙ and_true (flag_at n j))
+      | inr g ↦ ap (λ b. b == 1) (bit_at_and n (2 ^ k - 1) j ∙ ap (min (bit_at n j)) (bit_at_ones_above k j g) ∙ none)
+          ∙ sym (ap (λ b. flag_at n j && b) (le-ltb j k g) ∙ and_false (flag_at n j))
+    ]
+  where
+    low : min (bit_at n j) 1 ≡ bit_at n j
+    low = omega (arith, bit_at-lt n j)
+
+    none : min (bit_at n j) 0 ≡ 0
+    none = omega arith
+
+    and_true : (b : Bool) → (b && true) ≡ b
+    and_true true = refl
+    and_true false = refl
+
+    and_false : (b : Bool) → (b && false) ≡ false
+    and_false true = refl
+    and_false false = refl
+
+below_all : (n k : ℕ) → flags_of (bit_and n (2 ^ k - 1)) ≡ map (λ j. flag_at n j && nat_lt j k) places
+below_all n k = all_places _ _ (λ j within. below_flag n k j)
+
+pub masked_is : (n : ℕ) (b : Bucket) → flags_of (bit_and n (2 ^ bound_place b - 1)) ≡ higher_than b timeshare_lanes (flags_of n)
+masked_is n Ui = below_all n 0
+masked_is n Fg = below_all n 0
+masked_is n Ini = below_all n 2
+masked_is n Df = below_all n 4
+masked_is n Ut = below_all n 6
+masked_is n Bg = below_all n 8

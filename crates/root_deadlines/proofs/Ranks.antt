@@ -1,7 +1,7 @@
 -- Lanes and deadlines as numbers: a lane stands higher, and is due before another, where its number is less.
-use Rattle.std.proofs.Common.{◌≡◌, ℕ, ◌+◌, ◌*◌, ◌<◌, ◌==◌, nat_lt, Bool, true, false, not, ◌&&◌, ◌||◌, refl, sym, ap, ◌∙◌, arith, inl, inr, lt-ltb, le-ltb, eq-eqb, ne_eqb}
-use Rattle.std.proofs.lemmas.Bool.{cases_lt}
-use Rattle.std.proofs.lemmas.Bool.{cases_order}
+use Rattle.std.proofs.Common.{◌≡◌, ℕ, ◌+◌, ◌*◌, ◌<◌, ◌==◌, nat_lt, Bool, true, false, not, ◌&&◌, ◌||◌, List, [], ◌∷◌, refl, sym, ap, ◌∙◌, arith, inl, inr, lt-ltb, le-ltb, eq-eqb, ne_eqb}
+use Rattle.std.specs.List.{list_all}
+use Rattle.std.proofs.lemmas.Bool.{cases_lt, cases_order, ltb-true}
 use Rattle.std.proofs.Math.Nat.{mul-le-mul_right}
 use Rattle.sched_base.specs.Bucket.{index}
 use Rattle.sched_base.specs.declared.buckets.Bucket.{Bucket}
@@ -64,6 +64,14 @@ pub higher_by_rank : (x y : Lane) → stands_higher x y ≡ nat_lt (rank x) (ran
 higher_by_rank x y =
     by_two 2 (index x.bucket) (index y.bucket) (bound_rank x.bound) (bound_rank y.bound) (x.bound && not y.bound)
     (bound_small x.bound) (bound_small y.bound) (bound_first x.bound y.bound)
+
+-- each lane stands higher than all after it
+abbrev pub in_order : List Lane → Bool
+in_order [] = true
+in_order (l ∷ ls) = list_all (stands_higher l) ls && in_order ls
+
+pub not_back : (x y : Lane) → stands_higher x y ≡ true → stands_higher y x ≡ false
+not_back x y h = higher_by_rank y x ∙ le-ltb (rank y) (rank x) (omega (arith, ltb-true (rank x) (rank y) (sym (higher_by_rank x y) ∙ h)))
 
 rank_small : (x : Lane) → rank x < 16
 rank_small x = omega (arith, index_small x.bucket, bound_small x.bound)

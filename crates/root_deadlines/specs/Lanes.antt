@@ -1,5 +1,8 @@
 -- What is known of the ten timeshare lanes.
-use Rattle.std.specs.Prelude.{Bool, List, [], map, ℕ, ◌≡◌, ◌∷◌, false, true}
+use Rattle.std.specs.Prelude.{Bool, List, [], length, map, nat_lt, ℕ, ◌&&◌, ◌≡◌, ◌∷◌, false, true}
+use Rattle.sched_base.specs.Bucket.{index}
+use Rattle.sched_base.specs.declared.buckets.Bucket.{Bucket}
+use Rattle.bucket_tables.specs.declared.Lane.{Lane}
 use Rattle.flat_policy.specs.Queue.{LaneWindow, timeshare_lanes}
 
 -- the ten lanes, each at its place: whether it is filled, and its deadline
@@ -7,12 +10,23 @@ pub record LaneTable : Type 0 where
   pub filled : List Bool
   pub deadlines : List ℕ
 
+-- flags and deadlines speak of ten lanes
+pub record AreTen (filled : List Bool) (deadlines : List ℕ) : Type 0 where
+  pub flags : length filled ≡ 10
+  pub numbers : length deadlines ≡ 10
+
 -- those of a list whose flag is set
 abbrev pub filled_among : {X : Type 0} → List Bool → List X → List X
 filled_among [] xs = []
 filled_among (f ∷ fs) [] = []
 filled_among (true ∷ fs) (x ∷ xs) = x ∷ filled_among fs xs
 filled_among (false ∷ fs) (x ∷ xs) = filled_among fs xs
+
+-- the flags of those lanes whose bucket is higher than this one
+abbrev pub higher_than : Bucket → List Lane → List Bool → List Bool
+higher_than b [] fs = []
+higher_than b (l ∷ ls) [] = []
+higher_than b (l ∷ ls) (f ∷ fs) = (f && nat_lt (index l.bucket) (index b)) ∷ higher_than b ls fs
 
 -- the windows of the ten lanes, with the deadlines of the table
 pub record AreWindowsOf (t : LaneTable) (windows : List LaneWindow) : Type 0 where

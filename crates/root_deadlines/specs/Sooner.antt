@@ -1,16 +1,11 @@
--- Which of two lanes is due first, by what is read of them.
-use Rattle.std.specs.Prelude.{Bool, None, Option, Some, false, if◌then◌else◌, nat_lt, true, ◌&&◌, ◌==◌, ◌||◌}
-use Rattle.flat_policy.specs.Windows.{stands_higher}
+-- Which of two lanes is due first, where the lanes come in their order.
+use Rattle.std.specs.Prelude.{Bool, None, Option, Some, false, if◌then◌else◌, nat_lt, true}
 use Rattle.root_deadlines.specs.declared.lanes.Due.{Due}
 
--- a lane is due before another by deadline, and at one deadline the higher one
-abbrev pub due_sooner : Due → Due → Bool
-due_sooner x y = nat_lt x.deadline y.deadline || ((x.deadline == y.deadline) && stands_higher x.lane y.lane)
-
--- the sooner of the one found so far and one more
+-- the sooner of the one found so far and a later one; at one deadline the one found so far
 abbrev pub sooner_of : Option Due → Due → Option Due
 sooner_of None y = Some y
-sooner_of (Some x) y = if due_sooner y x then Some y else Some x
+sooner_of (Some x) y = if nat_lt y.deadline x.deadline then Some y else Some x
 
 -- the same, where the one more counts
 abbrev pub sooner_with : Bool → Option Due → Due → Option Due

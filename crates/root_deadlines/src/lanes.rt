@@ -3,31 +3,35 @@
 ghost use Rattle.std.specs.Prelude.{◌≡◌, ◌≢◌, ◌↔◌, IfSome, IsNone, IsTrue, List, [], false, map, option_map, replicate, slice_index, slice_index_or, slice_set, true};
 ghost use Rattle.std.specs.Option.{ForSome};
 ghost use Rattle.flat_policy.specs.Queue.{LaneWindow, timeshare_lanes};
-ghost use Rattle.flat_policy.specs.Windows.{earliest_of, stands_higher};
-ghost use Rattle.root_deadlines.specs.Lanes.{AreWindowsOf, LaneTable, filled_among};
+ghost use Rattle.flat_policy.specs.Windows.{earliest_of};
+ghost use Rattle.root_deadlines.specs.Lanes.{AreWindowsOf, filled_among, higher_than};
 ghost use Rattle.root_deadlines.specs.Places.{place_of};
-ghost use Rattle.root_deadlines.specs.Sooner.{due_sooner, sooner_with};
+ghost use Rattle.root_deadlines.specs.Sooner.{sooner_with};
 
+use crate::lane_set::LaneSet;
 use crate::places::place;
 use bucket_tables::{Lane, each_lane};
 use sched_base::Bucket;
 use std::marker::Model;
 
-/// The ten timeshare lanes: which of them are filled, as a bitmap, and the deadline of each.
-/// Contracts see the flags and the deadlines by place.
+/// The ten timeshare lanes: which of them are filled, and the deadline of each. Contracts see the
+/// flags and the deadlines by place.
 #[derive(Drop)]
 pub struct Lanes {
-    filled: u16,
+    filled: LaneSet,
     deadlines: [u64; 10],
 }
 
 impl Model for Lanes {
     ghost use Rattle.root_deadlines.specs.Lanes.{LaneTable};
-    ghost use Rattle.root_deadlines.specs.Bits.{flags_of};
 
     ghost Value = { LaneTable };
 
-    ghost view = { λ lanes. record { filled = flags_of lanes.filled; deadlines = lanes.deadlines } };
+    ghost view = { λ lanes. record { filled = lanes.filled; deadlines = lanes.deadlines } };
+
+    ghost use Rattle.root_deadlines.specs.Lanes.{AreTen};
+
+    ghost invariant = { λ lanes. AreTen lanes.filled lanes.deadlines };
 }
 
 /// A filled lane and its deadline.
@@ -37,31 +41,13 @@ struct Due {
     deadline: u64,
 }
 
-impl Due {
-    /// Whether it is due before another: by deadline, then bucket index, then bound first.
-    fn is_sooner(self, other: Due) -> bool
-        ensures { result ≡ due_sooner self other }
-    {
-        self.deadline < other.deadline
-            || (self.deadline == other.deadline && is_higher(self.lane, other.lane))
-    }
-}
-
-/// Whether a lane stands higher than another: by bucket index, and in one bucket the bound one.
-fn is_higher(lane: Lane, other: Lane) -> bool
-    ensures { result ≡ stands_higher lane other }
-{
-    let (own, others) = (lane.bucket.index(), other.bucket.index());
-    own < others || (own == others && lane.bound && !other.bound)
-}
-
 impl Lanes {
     /// No lane is filled, and every deadline is 0.
     pub fn new() -> Lanes
         ensures { result ≡ record { filled = replicate 10 false; deadlines = replicate 10 0 } }
     {
         Lanes {
-            filled: 0,
+            filled: LaneSet::none(),
             deadlines: [0; 10],
         }
     }
@@ -74,9 +60,8 @@ impl Lanes {
           deadlines = slice_set self.old.deadlines (place_of lane) deadline;
         } }
     {
-        let place = place(lane);
-        self.filled |= 1 << place;
-        self.deadlines[place] = deadline;
+        self.filled.set(lane, true);
+        self.renew(lane, deadline);
     }
 
     /// The lane is empty; its deadline stays, and so do the other lanes.
@@ -86,7 +71,7 @@ impl Lanes {
           filled = slice_set self.old.filled (place_of lane) false;
         } }
     {
-        self.filled &= !(1 << place(lane));
+        self.filled.set(lane, false);
     }
 
     /// The lane gets a deadline, in microseconds. Which lanes are filled stays.
@@ -112,17 +97,25 @@ impl Lanes {
         requires { lane.bucket ≢ Bucket.Ui }
         ensures { result ≡ slice_index_or self.now.filled (place_of lane) false }
     {
-        (self.filled >> place(lane)) & 1 == 1
+        self.filled.contains(lane)
     }
 
     /// Whether no lane is filled.
     pub fn is_empty(&self) -> bool
         ensures { IsTrue result ↔ (filled_among self.now.filled timeshare_lanes ≡ []) }
     {
-        self.earliest().is_none()
+        self.filled.is_empty()
     }
 
-    /// The sooner of the lane found so far and one more, where that is filled.
+    /// The filled lanes whose bucket is higher than this one.
+    pub fn higher_than(&self, bucket: Bucket) -> LaneSet
+        ensures { result ≡ higher_than bucket timeshare_lanes self.now.filled }
+    {
+        self.filled.higher_than(bucket)
+    }
+
+    /// The sooner of the lane found so far and one more, where that is filled. The lanes come in
+    /// their order, so at one deadline the one found so far is first.
     fn sooner(&self, first: Option<Due>, lane: Lane) -> Option<Due>
         requires lane { lane.bucket ≢ Bucket.Ui }
         requires found { ForSome first (λ due. due.lane.bucket ≢ Bucket.Ui) }
@@ -138,7 +131,7 @@ impl Lanes {
             deadline: self.deadline(lane),
         };
         match first {
-            Some(found) if !due.is_sooner(found) => first,
+            Some(found) if found.deadline <= due.deadline => first,
             _ => Some(due),
         }
     }

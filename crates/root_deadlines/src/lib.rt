@@ -3,10 +3,12 @@
 //! Deadlines are moments in whole microseconds. No call here takes memory or refuses.
 #![tactic(auto)]
 
+pub mod lane_set;
 pub mod lanes;
 pub mod places;
 
 pub use bucket_tables::Lane;
+pub use lane_set::LaneSet;
 pub use lanes::Lanes;
 pub use places::place;
 

@@ -1,75 +1,101 @@
--- The choice by deadlines, from the lane that is due first and what is found above it.
-use Rattle.std.proofs.Common.{◌≡◌, Bool, true, false, List, filter, fold, nat_lt, Option, None, Some, option_map, refl, sym, ap, ◌∙◌}
+-- The choice by deadlines, from the lane that is due first and the higher lanes.
+use Rattle.std.proofs.Common.{◌≡◌, Bool, true, false, List, [], ◌∷◌, filter, find, nat_lt, Option, None, Some, option_map, refl, sym, ap, ◌∙◌}
 use Rattle.sched_base.specs.Bucket.{index}
 use Rattle.bucket_tables.specs.declared.Lane.{Lane}
 use Rattle.flat_policy.specs.declared.lanes.Kind.TheVariants.{Natural, Pass, Starve}
 use Rattle.flat_policy.specs.declared.setup.Times.{Times}
-use Rattle.flat_policy.specs.Queue.{LaneWindow}
+use Rattle.flat_policy.specs.Queue.{LaneWindow, timeshare_lanes}
 use Rattle.flat_policy.specs.Windows.{Choice, choice_against, chosen_behind, chosen_of, earliest_of, higher_of, may_pass, passing_of, some_higher}
-use Rattle.root_deadlines.specs.Lanes.{AreWindowsOf, LaneTable, filled_among}
+use Rattle.root_deadlines.specs.Lanes.{AreWindowsOf, LaneTable, filled_among, higher_than}
+use Rattle.root_deadlines.proofs.Ranks.{in_order}
 use Rattle.windows.specs.declared.choice.Marks.{Marks}
-use Rattle.windows.specs.declared.choice.Higher.{Higher}
-use Rattle.windows.specs.declared.choice.Higher.TheVariants.{Empty, Passing, Waiting}
-use Rattle.windows.specs.Higher.{found_with}
-use Rattle.windows.proofs.Found.{found_is, outcome}
-use Rattle.windows.specs.Views.{HasTen, windows_over}
+use Rattle.windows.specs.Views.{TenMarked, windows_over}
 use Rattle.windows.specs.WindowStates.{WindowState, filled_of}
-use Rattle.windows.proofs.Ordered.{filled_in_order, filtered_in_order, first_of, highest_is_first, in_order, lanes_of}
+use Rattle.windows.proofs.Ordered.{filled_in_order, filtered_in_order, first_of, highest_is_first, lanes_of, none_filled, none_of_lanes}
+use Rattle.windows.proofs.Passing.{first_is_found, higher_among}
 use Rattle.windows.proofs.Places.{deadlines_over, lanes_over}
 
--- the choice by what was found above a lane
-abbrev pub choice_by : Lane → Higher → Choice
-choice_by e (Passing at) = record { lane = at; kind = Some Pass }
-choice_by e Waiting = record { lane = e; kind = Some Starve }
-choice_by e Empty = record { lane = e; kind = Some Natural }
+-- the choice by the lane that is due first, the lane that may pass it, and whether a higher lane is filled
+abbrev pub choice_by : Lane → Option Lane → Bool → Choice
+choice_by e (Some at) b = record { lane = at; kind = Some Pass }
+choice_by e None true = record { lane = e; kind = Some Starve }
+choice_by e None false = record { lane = e; kind = Some Natural }
 
-by_outcome : (filled : List LaneWindow) (w : LaneWindow) (p : Option LaneWindow) → choice_against p filled w ≡ choice_by w.lane (outcome p (some_higher (higher_of filled w)))
+abbrev pub lane_at : Option LaneWindow → Option Lane
+lane_at o = option_map (λ (w : LaneWindow). w.lane) o
+
+-- the choice by the higher lanes that are filled
+abbrev pub choice_over : List Times → Lane → List LaneWindow → Choice
+choice_over ts e higher = choice_by e (lane_at (find (may_pass ts) higher)) (some_higher higher)
+
+by_outcome : (filled : List LaneWindow) (w : LaneWindow) (p : Option LaneWindow)
+    → choice_against p filled w ≡ choice_by w.lane (lane_at p) (some_higher (higher_of filled w))
 by_outcome filled w (Some l) = refl
 by_outcome filled w None = behind (some_higher (higher_of filled w))
   where
-    behind : (b : Bool) → chosen_behind b w ≡ choice_by w.lane (outcome None b)
+    behind : (b : Bool) → chosen_behind b w ≡ choice_by w.lane None b
     behind true = refl
     behind false = refl
 
-against_is : (ts : List Times) (filled : List LaneWindow) → in_order (lanes_of filled) ≡ true → (w : LaneWindow)
-    → choice_against (passing_of ts filled w) filled w ≡ choice_by w.lane (fold (found_with ts w.lane) Empty filled)
-against_is ts filled order w =
+against_is : (ts : List Times) (fs : List Bool) (ws : List LaneWindow) → in_order (lanes_of ws) ≡ true → (w : LaneWindow)
+    → choice_against (passing_of ts (filled_among fs ws) w) (filled_among fs ws) w
+    ≡ choice_over ts w.lane (filled_among (higher_than w.lane.bucket (lanes_of ws) fs) ws)
+against_is ts fs ws order w =
+    let filled = filled_among fs ws in
     let first = highest_is_first (filter (may_pass ts) (higher_of filled w))
     (filtered_in_order (may_pass ts) (higher_of filled w)
-    (filtered_in_order (λ (l : LaneWindow). nat_lt (index l.lane.bucket) (index w.lane.bucket)) filled order)) in
-    ap (λ p. choice_against p filled w) first
-    ∙ by_outcome filled w (first_of (filter (may_pass ts) (higher_of filled w)))
-    ∙ ap (choice_by w.lane) (sym (found_is ts w.lane false filled))
+    (filtered_in_order (λ (l : LaneWindow). nat_lt (index l.lane.bucket) (index w.lane.bucket)) filled (filled_in_order fs ws order))) in
+    ap (λ p. choice_against p filled w) (first ∙ first_is_found (may_pass ts) (higher_of filled w))
+    ∙ by_outcome filled w (find (may_pass ts) (higher_of filled w))
+    ∙ ap (choice_over ts w.lane) (higher_among w.lane.bucket fs ws)
 
 some_lane : (x y : Lane) → Some x ≡ Some y → x ≡ y
 some_lane x y h = cc
 
-pub chosen_is : (ts : List Times) (filled : List LaneWindow) → in_order (lanes_of filled) ≡ true → (e : Lane)
-    → Some e ≡ option_map (λ (w : LaneWindow). w.lane) (earliest_of filled)
-    → chosen_of ts filled ≡ Some (choice_by e (fold (found_with ts e) Empty filled))
-chosen_is ts filled order e h = from (earliest_of filled) h
+chosen_is : (ts : List Times) (fs : List Bool) (ws : List LaneWindow) → in_order (lanes_of ws) ≡ true → (e : Lane)
+    → Some e ≡ lane_at (earliest_of (filled_among fs ws))
+    → chosen_of ts (filled_among fs ws) ≡ Some (choice_over ts e (filled_among (higher_than e.bucket (lanes_of ws) fs) ws))
+chosen_is ts fs ws order e h = from (earliest_of (filled_among fs ws)) h
   where
-    from : (o : Option LaneWindow) → Some e ≡ option_map (λ (w : LaneWindow). w.lane) o
-        → option_map (λ (w : LaneWindow). choice_against (passing_of ts filled w) filled w) o ≡ Some (choice_by e (fold (found_with ts e) Empty filled))
+    from : (o : Option LaneWindow) → Some e ≡ lane_at o
+        → option_map (λ (w : LaneWindow). choice_against (passing_of ts (filled_among fs ws) w) (filled_among fs ws) w) o
+        ≡ Some (choice_over ts e (filled_among (higher_than e.bucket (lanes_of ws) fs) ws))
     from None k = absurd cc
     from (Some w) k =
-        ap (λ c. Some c) (against_is ts filled order w)
-        ∙ ap (λ l. Some (choice_by l (fold (found_with ts l) Empty filled))) (sym (some_lane e w.lane k))
+        ap (λ c. Some c) (against_is ts fs ws order w)
+        ∙ ap (λ l. Some (choice_over ts l (filled_among (higher_than l.bucket (lanes_of ws) fs) ws))) (sym (some_lane e w.lane k))
 
 -- the same, from what the calls on the fields ensure
-pub chosen_from : (ts : List Times) (t : LaneTable) (ms : List Marks) → HasTen t ms → (w : WindowState)
+pub chosen_from : (ts : List Times) (t : LaneTable) (ms : List Marks) (rs : List Bool) → TenMarked t ms rs → (w : WindowState)
     → record { times = ts; lanes = windows_over t.deadlines ms; filled = t.filled } ≡ w
     → (o : Option Lane) (e : Lane) → o ≡ Some e
     → ((windows : List LaneWindow) → AreWindowsOf t windows → o ≡ option_map (λ (l : LaneWindow). l.lane) (earliest_of (filled_among t.filled windows)))
-    → (found : Higher) → found ≡ fold (found_with w.times e) Empty (filled_of w)
-    → chosen_of w.times (filled_of w) ≡ Some (choice_by e found)
-chosen_from ts t ms ten w view o e some first found is =
+    → (higher : List Bool) → higher ≡ higher_than e.bucket timeshare_lanes t.filled
+    → chosen_of w.times (filled_of w) ≡ Some (choice_over w.times e (filled_among higher w.lanes))
+chosen_from ts t ms rs ten w view o e some first higher is =
     let ws = windows_over t.deadlines ms in
     let lanes = lanes_over t.deadlines ms ten.deadlines ten.marks in
     let deadlines = deadlines_over t.deadlines ms ten.deadlines ten.marks in
-    let due : Some e ≡ option_map (λ (l : LaneWindow). l.lane) (earliest_of (filled_among t.filled ws)) =
+    let due : Some e ≡ lane_at (earliest_of (filled_among t.filled ws)) =
     sym some ∙ first ws (record { lanes = lanes; deadlines = deadlines }) in
     ap (λ (v : WindowState). chosen_of v.times (filled_of v)) (sym view)
-    ∙ chosen_is ts (filled_among t.filled ws) (filled_in_order t.filled ws (ap in_order lanes)) e due
-    ∙ ap (λ (v : WindowState). Some (choice_by e (fold (found_with v.times e) Empty (filled_of v)))) view
-    ∙ ap (λ f. Some (choice_by e f)) (sym is)
+    ∙ chosen_is ts t.filled ws (ap in_order lanes) e due
+    ∙ ap (λ ls. Some (choice_over ts e (filled_among (higher_than e.bucket ls t.filled) ws))) lanes
+    ∙ ap (λ hs. Some (choice_over ts e (filled_among hs ws))) (sym is)
+    ∙ ap (λ (v : WindowState). Some (choice_over v.times e (filled_among higher v.lanes))) view
+
+-- the lanes of what the fields mean
+pub lanes_are : (ts : List Times) (t : LaneTable) (ms : List Marks) (rs : List Bool) → TenMarked t ms rs → (w : WindowState)
+    → record { times = ts; lanes = windows_over t.deadlines ms; filled = t.filled } ≡ w → lanes_of w.lanes ≡ timeshare_lanes
+lanes_are ts t ms rs ten w view = ap (λ (v : WindowState). lanes_of v.lanes) (sym view) ∙ lanes_over t.deadlines ms ten.deadlines ten.marks
+
+-- where no lane is in a set, none of it waits, and else one does
+pub none_waits : (fs : List Bool) (ws : List LaneWindow) → lanes_of ws ≡ timeshare_lanes → filled_among fs timeshare_lanes ≡ [] → filled_among fs ws ≡ []
+none_waits fs ws lanes none = none_filled fs ws (ap (filled_among fs) lanes ∙ none)
+
+pub one_waits : (fs : List Bool) (ws : List LaneWindow) → lanes_of ws ≡ timeshare_lanes → (filled_among fs timeshare_lanes ≡ [] → ⊥) → some_higher (filled_among fs ws) ≡ true
+one_waits fs ws lanes some = is_some_of (filled_among fs ws) (λ none. some (ap (filled_among fs) (sym lanes) ∙ none_of_lanes fs ws none))
+  where
+    is_some_of : (xs : List LaneWindow) → (xs ≡ [] → ⊥) → some_higher xs ≡ true
+    is_some_of [] h = absurd (h refl)
+    is_some_of (x ∷ xs) h = refl

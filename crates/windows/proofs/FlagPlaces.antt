@@ -1,5 +1,5 @@
 -- Flags at a lane's place are flags of that lane, and a pass by place is a pass over the flags and windows.
-use Rattle.std.proofs.Common.{◌≡◌, ℕ, Bool, true, false, List, [], ◌∷◌, length, fold, refl}
+use Rattle.std.proofs.Common.{◌≡◌, ℕ, Bool, true, false, List, [], ◌∷◌, length, fold, Option, None, Some, refl}
 use Rattle.std.specs.Prelude.{slice_index, slice_index_or, slice_set}
 use Rattle.sched_base.specs.declared.buckets.Bucket.{Bucket}
 use Rattle.sched_base.specs.declared.buckets.Bucket.TheVariants.{Bg, Df, Fg, Ini, Ui, Ut}
@@ -8,13 +8,11 @@ use Rattle.flat_policy.specs.declared.setup.Times.{Times}
 use Rattle.flat_policy.specs.Queue.{LaneWindow, lane, new_window, timeshare_lanes}
 use Rattle.root_deadlines.specs.Places.{place_of}
 use Rattle.root_deadlines.proofs.Tens.{by_ten}
-use Rattle.windows.specs.declared.choice.Higher.{Higher}
-use Rattle.windows.specs.declared.choice.Higher.TheVariants.{Empty}
 use Rattle.windows.specs.declared.choice.Marks.{Marks}
-use Rattle.windows.specs.Higher.{found_if}
+use Rattle.windows.specs.Passing.{passing_with}
 use Rattle.windows.specs.Views.{windows_over}
 use Rattle.windows.specs.WindowStates.{with_flag}
-use Rattle.windows.proofs.Found.{found_over}
+use Rattle.windows.proofs.Passing.{passing_over}
 use Rattle.windows.proofs.Places.{by_tens}
 
 abbrev FlagsAt : Lane → Bool → List Bool → List ℕ → List Marks → Type 0
@@ -70,15 +68,15 @@ put_back Bg true ds other x = by_ten (λ es. slice_set es (place_of (lane Bg tru
 put_back Bg false ds other x = by_ten (λ es. slice_set es (place_of (lane Bg false)) (slice_index es (place_of (lane Bg false))) ≡ es) (λ a b c d e f g h i j. refl) ds x
 
 -- the pass that the code makes
-abbrev pub found_by_place : List Times → List Bool → List LaneWindow → Lane → Higher
-found_by_place ts fs ws e =
-    fold (λ (a : Higher) (l : Lane). found_if (slice_index_or fs (place_of l) false) ts e a (slice_index_or ws (place_of l) (new_window l))) Empty timeshare_lanes
+abbrev pub passing_by_place : List Times → List Bool → List LaneWindow → Option Lane
+passing_by_place ts fs ws =
+    fold (λ (a : Option Lane) (l : Lane). passing_with (slice_index_or fs (place_of l) false) ts a (slice_index_or ws (place_of l) (new_window l))) None timeshare_lanes
 
-pub by_place : (ts : List Times) (e : Lane) (fs : List Bool) (ds : List ℕ) (ms : List Marks) → length fs ≡ 10 → length ds ≡ 10 → length ms ≡ 10
-    → found_by_place ts fs (windows_over ds ms) e ≡ found_over ts e fs (windows_over ds ms) Empty
-by_place ts e fs ds ms z x y =
-    by_ten (λ gs. found_by_place ts gs (windows_over ds ms) e ≡ found_over ts e gs (windows_over ds ms) Empty)
+pub by_place : (ts : List Times) (fs : List Bool) (ds : List ℕ) (ms : List Marks) → length fs ≡ 10 → length ds ≡ 10 → length ms ≡ 10
+    → passing_by_place ts fs (windows_over ds ms) ≡ passing_over ts fs (windows_over ds ms) None
+by_place ts fs ds ms z x y =
+    by_ten (λ gs. passing_by_place ts gs (windows_over ds ms) ≡ passing_over ts gs (windows_over ds ms) None)
     (λ u0 u1 u2 u3 u4 u5 u6 u7 u8 u9. by_tens
-    (λ es ns. found_by_place ts (u0 ∷ u1 ∷ u2 ∷ u3 ∷ u4 ∷ u5 ∷ u6 ∷ u7 ∷ u8 ∷ u9 ∷ []) (windows_over es ns) e
-    ≡ found_over ts e (u0 ∷ u1 ∷ u2 ∷ u3 ∷ u4 ∷ u5 ∷ u6 ∷ u7 ∷ u8 ∷ u9 ∷ []) (windows_over es ns) Empty)
+    (λ es ns. passing_by_place ts (u0 ∷ u1 ∷ u2 ∷ u3 ∷ u4 ∷ u5 ∷ u6 ∷ u7 ∷ u8 ∷ u9 ∷ []) (windows_over es ns)
+    ≡ passing_over ts (u0 ∷ u1 ∷ u2 ∷ u3 ∷ u4 ∷ u5 ∷ u6 ∷ u7 ∷ u8 ∷ u9 ∷ []) (windows_over es ns) None)
     (λ a b c d e f g h i j k l m n o p q r s t. refl) ds ms x y) fs z

@@ -1,7 +1,9 @@
 pub mod Following
 pub mod Ordered
-pub mod Found
+pub mod Passing
+pub mod Still
 pub mod Chosen
 pub mod EachLane
 pub mod Places
 pub mod FlagPlaces
+pub mod Running

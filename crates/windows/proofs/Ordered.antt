@@ -1,18 +1,13 @@
 -- Lanes in their order: the first of them is the one that none stands higher than.
 use Rattle.std.proofs.Common.{◌≡◌, Bool, true, false, not, ◌&&◌, cond, List, [], ◌∷◌, map, filter, find, Option, None, Some, refl, sym, ap, ◌∙◌, arith}
 use Rattle.std.specs.List.{list_all, list_any}
-use Rattle.std.proofs.lemmas.Bool.{and_from, and_parts, le-ltb, ltb-true, or_from}
+use Rattle.std.proofs.lemmas.Bool.{and_from, and_parts, le-ltb, or_from}
 use Rattle.bucket_tables.specs.declared.Lane.{Lane}
 use Rattle.flat_policy.specs.Queue.{LaneWindow}
 use Rattle.flat_policy.specs.Unpreceded.{unpreceded}
 use Rattle.flat_policy.specs.Windows.{stands_higher}
 use Rattle.root_deadlines.specs.Lanes.{filled_among}
-use Rattle.root_deadlines.proofs.Ranks.{higher_by_rank, rank}
-
--- each lane stands higher than all after it
-abbrev pub in_order : List Lane → Bool
-in_order [] = true
-in_order (l ∷ ls) = list_all (stands_higher l) ls && in_order ls
+use Rattle.root_deadlines.proofs.Ranks.{higher_by_rank, in_order, not_back, rank}
 
 abbrev pub lanes_of : List LaneWindow → List Lane
 lanes_of ws = map (λ (w : LaneWindow). w.lane) ws
@@ -75,9 +70,6 @@ filtered_in_order p (w ∷ ws) h =
           (all_filtered (stands_higher w.lane) p ws parts.0) rest
       | false ↦ rest
     ]
-
-not_back : (x y : Lane) → stands_higher x y ≡ true → stands_higher y x ≡ false
-not_back x y h = higher_by_rank y x ∙ le-ltb (rank y) (rank x) (omega (arith, ltb-true (rank x) (rank y) (sym (higher_by_rank x y) ∙ h)))
 
 none_higher : (x : LaneWindow) (ws : List LaneWindow) → list_all (stands_higher x.lane) (lanes_of ws) ≡ true → list_any (λ (y : LaneWindow). stands_higher y.lane x.lane) ws ≡ false
 none_higher x [] h = refl

@@ -65,3 +65,23 @@ write_at Ut true change deadline mark ds ms other x y = by_tens (WritesAt (lane 
 write_at Ut false change deadline mark ds ms other x y = by_tens (WritesAt (lane Ut false) change deadline mark) (λ a b c d e f g h i j k l m n o p q r s t is. rw is refl) ds ms x y
 write_at Bg true change deadline mark ds ms other x y = by_tens (WritesAt (lane Bg true) change deadline mark) (λ a b c d e f g h i j k l m n o p q r s t is. rw is refl) ds ms x y
 write_at Bg false change deadline mark ds ms other x y = by_tens (WritesAt (lane Bg false) change deadline mark) (λ a b c d e f g h i j k l m n o p q r s t is. rw is refl) ds ms x y
+
+-- a change that leaves the windows at a lane's place leaves all
+abbrev StaysAt : Lane → (LaneWindow → LaneWindow) → List ℕ → List Marks → Type 0
+StaysAt at change ds ms =
+    change (slice_index_or (windows_over ds ms) (place_of at) (new_window at)) ≡ slice_index_or (windows_over ds ms) (place_of at) (new_window at)
+    → windows_over ds ms ≡ at_lane at change (windows_over ds ms)
+
+pub stays_at : (b : Bucket) (bound : Bool) (change : LaneWindow → LaneWindow) (ds : List ℕ) (ms : List Marks) → (b ≡ Ui → ⊥) → length ds ≡ 10 → length ms ≡ 10
+    → StaysAt (lane b bound) change ds ms
+stays_at Ui bound change ds ms other x y = absurd (other refl)
+stays_at Fg true change ds ms other x y = by_tens (StaysAt (lane Fg true) change) (λ a b c d e f g h i j k l m n o p q r s t is. rw is refl) ds ms x y
+stays_at Fg false change ds ms other x y = by_tens (StaysAt (lane Fg false) change) (λ a b c d e f g h i j k l m n o p q r s t is. rw is refl) ds ms x y
+stays_at Ini true change ds ms other x y = by_tens (StaysAt (lane Ini true) change) (λ a b c d e f g h i j k l m n o p q r s t is. rw is refl) ds ms x y
+stays_at Ini false change ds ms other x y = by_tens (StaysAt (lane Ini false) change) (λ a b c d e f g h i j k l m n o p q r s t is. rw is refl) ds ms x y
+stays_at Df true change ds ms other x y = by_tens (StaysAt (lane Df true) change) (λ a b c d e f g h i j k l m n o p q r s t is. rw is refl) ds ms x y
+stays_at Df false change ds ms other x y = by_tens (StaysAt (lane Df false) change) (λ a b c d e f g h i j k l m n o p q r s t is. rw is refl) ds ms x y
+stays_at Ut true change ds ms other x y = by_tens (StaysAt (lane Ut true) change) (λ a b c d e f g h i j k l m n o p q r s t is. rw is refl) ds ms x y
+stays_at Ut false change ds ms other x y = by_tens (StaysAt (lane Ut false) change) (λ a b c d e f g h i j k l m n o p q r s t is. rw is refl) ds ms x y
+stays_at Bg true change ds ms other x y = by_tens (StaysAt (lane Bg true) change) (λ a b c d e f g h i j k l m n o p q r s t is. rw is refl) ds ms x y
+stays_at Bg false change ds ms other x y = by_tens (StaysAt (lane Bg false) change) (λ a b c d e f g h i j k l m n o p q r s t is. rw is refl) ds ms x y

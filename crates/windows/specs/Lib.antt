@@ -1,5 +1,5 @@
 pub mod OneLane
 pub mod WindowStates
 pub mod Views
-pub mod Higher
+pub mod Passing
 pub mod Flags

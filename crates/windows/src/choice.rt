@@ -1,19 +1,21 @@
 //! The windows of the ten lanes, and the lane that they choose.
 
-ghost use Rattle.std.specs.Prelude.{◌≡◌, ◌≢◌, ◌<◌, ◌^◌, ◌↔◌, IsTrue, List, [], Some, false, filter, fold, map, replicate, slice_index_or, true};
+ghost use Rattle.std.specs.Prelude.{◌≡◌, ◌≢◌, ◌<◌, ◌^◌, ◌↔◌, IfSome, IsTrue, [], Some, false, find, length, map, option_map, replicate, slice_index_or, true};
+ghost use Rattle.std.specs.Option.{ForSome};
 ghost use Rattle.flat_policy.specs.Queue.{LaneWindow, new_window, timeshare_lanes};
 ghost use Rattle.flat_policy.specs.Setup.{times_for};
-ghost use Rattle.flat_policy.specs.Windows.{at_lane, chosen_of, expired_window, renewed_deadline, window_after};
+ghost use Rattle.flat_policy.specs.Windows.{at_lane, chosen_of, expired_window, may_pass, renewed_deadline, window_after};
+ghost use Rattle.root_deadlines.specs.Lanes.{filled_among};
 ghost use Rattle.root_deadlines.specs.Places.{place_of};
-ghost use Rattle.windows.specs.Higher.{PassesTimeshare, found_if, found_with};
 ghost use Rattle.windows.specs.OneLane.{lane_window};
-ghost use Rattle.windows.specs.WindowStates.{WindowState, filled_of, window_of, with_flag};
+ghost use Rattle.windows.specs.Passing.{passing_with};
+ghost use Rattle.windows.specs.WindowStates.{filled_of, window_of, with_flag};
 
 use crate::window::Window;
 use bucket_tables::{Lane, each_lane};
 use flat_policy::lanes::{Kind, Starved, Warp};
 use flat_policy::setup::Times;
-use root_deadlines::{Lanes, place};
+use root_deadlines::{LaneSet, Lanes, place};
 use sched_base::Bucket;
 use std::marker::Model;
 
@@ -26,11 +28,14 @@ struct Marks {
 
 /// The deadlines, warps and starvation windows of the ten timeshare lanes of a cluster, and which
 /// of them are filled. In the calls WCEL, WARP and QUANTUM are the times of a lane's bucket.
+/// `running` has the lanes of which a warp or a starvation window runs, so that all others need no
+/// look when windows expire.
 #[derive(Drop)]
 pub struct Windows {
     times: [Times; 6],
     lanes: Lanes,
     marks: [Marks; 10],
+    running: LaneSet,
 }
 
 impl Model for Windows {
@@ -38,7 +43,7 @@ impl Model for Windows {
 
     ghost Value = { WindowState };
 
-    ghost use Rattle.windows.specs.Views.{HasTen, windows_over};
+    ghost use Rattle.windows.specs.Views.{TenMarked, windows_over};
 
     ghost view = { λ w. record {
       times = w.times;
@@ -46,18 +51,7 @@ impl Model for Windows {
       filled = w.lanes.filled;
     } };
 
-    ghost invariant = { λ w. HasTen w.lanes w.marks };
-}
-
-/// What stands above the lane that is due first.
-#[derive(Clone, Copy, Drop)]
-enum Higher {
-    /// No higher lane is filled.
-    Empty,
-    /// Higher lanes are filled, and none of them may pass.
-    Waiting,
-    /// This one is the highest that may pass.
-    Passing(Lane),
+    ghost invariant = { λ w. TenMarked w.lanes w.marks w.running };
 }
 
 impl Windows {
@@ -77,6 +71,7 @@ impl Windows {
                 warp: Warp::Unused,
                 starved: Starved::No,
             }; 10],
+            running: LaneSet::none(),
         }
     }
 
@@ -112,6 +107,7 @@ impl Windows {
             warp: window.warp,
             starved: window.starved,
         };
+        self.running.set(lane, window.is_running());
     }
 
     /// A lane that was empty is filled at `now`: its deadline becomes `now` and WCEL, and it loses
@@ -158,7 +154,9 @@ impl Windows {
           lanes = map (expired_window self.old.times now) self.old.lanes;
         } }
     {
-        let _ = &self.times;
+        if self.running.is_empty() {
+            return;
+        }
         each_lane!(lane => self.expire_lane(lane, now));
     }
 
@@ -170,8 +168,13 @@ impl Windows {
           lanes = at_lane lane (expired_window self.old.times now) self.old.lanes;
         } }
     {
-        let expired = self.window(lane).expired(self.times(lane), now);
-        self.put(lane, expired);
+        if !self.running.contains(lane) {
+            return;
+        }
+        let (window, times) = (self.window(lane), self.times(lane));
+        if window.is_ending(times, now) {
+            self.put(lane, window.expired(times, now));
+        }
     }
 
     /// Whether no lane is filled.
@@ -209,44 +212,44 @@ impl Windows {
             ≡ Some (record { lane = result.0; kind = Some result.1 }) }
     {
         let first = self.lanes.earliest().unwrap();
-        match self.higher(first) {
-            Higher::Passing(lane) => (lane, Kind::Pass),
-            Higher::Waiting => (first, Kind::Starve),
-            Higher::Empty => (first, Kind::Natural),
+        let higher = self.lanes.higher_than(first.bucket);
+        if higher.is_empty() {
+            return (first, Kind::Natural);
+        }
+        match self.passing(&higher) {
+            Some(lane) => (lane, Kind::Pass),
+            None => (first, Kind::Starve),
         }
     }
 
-    /// What stands above a lane.
-    fn higher(&self, first: Lane) -> Higher
-        ensures lane { PassesTimeshare result }
-        ensures found { result
-            ≡ fold (found_with self.now.times first) Higher.Empty (filled_of self.now) }
+    /// The highest lane of a set that may pass an earlier deadline.
+    fn passing(&self, set: &LaneSet) -> Option<Lane>
+        requires { length set.now ≡ 10 }
+        ensures lane { IfSome result (λ l. l.bucket ≢ Bucket.Ui) }
+        ensures passing { result ≡ option_map (λ (l : LaneWindow). l.lane)
+            (find (may_pass self.now.times) (filled_among set.now self.now.lanes)) }
     {
         let _ = &self.times;
-        let mut higher = Higher::Empty;
-        each_lane!(lane => higher = self.with(higher, lane, first));
-        higher
+        let mut found = None;
+        each_lane!(lane => found = self.with(found, lane, set));
+        found
     }
 
-    /// What stands above a lane, by the lanes seen so far and one more.
-    fn with(&self, found: Higher, lane: Lane, first: Lane) -> Higher
+    /// The lane that was found so far, else one more lane, where that is in the set and may pass.
+    fn with(&self, found: Option<Lane>, lane: Lane, set: &LaneSet) -> Option<Lane>
         requires lane { lane.bucket ≢ Bucket.Ui }
-        requires found { PassesTimeshare found }
-        ensures lane { PassesTimeshare result }
-        ensures found { result ≡ found_if (slice_index_or self.now.filled (place_of lane) false)
-            self.now.times first found (window_of self.now lane) }
+        requires found { ForSome found (λ l. l.bucket ≢ Bucket.Ui) }
+        ensures lane { ForSome result (λ l. l.bucket ≢ Bucket.Ui) }
+        ensures found { result ≡ passing_with (slice_index_or set.now (place_of lane) false)
+            self.now.times found (window_of self.now lane) }
     {
-        let window = self.window(lane);
-        if !self.lanes.filled(lane) {
+        if found.is_some() || !set.contains(lane) {
             return found;
         }
-        if lane.bucket.index() >= first.bucket.index() {
-            return found;
-        }
-        match found {
-            Higher::Passing(_) => found,
-            _ if window.may_pass(self.times(lane)) => Higher::Passing(lane),
-            _ => Higher::Waiting,
+        if self.window(lane).may_pass(self.times(lane)) {
+            Some(lane)
+        } else {
+            None
         }
     }
 }

@@ -5,7 +5,7 @@ ghost use Rattle.bucket_tables.specs.declared.Lane.{Lane};
 ghost use Rattle.flat_policy.specs.declared.setup.Times.{Times};
 ghost use Rattle.flat_policy.specs.Setup.{times_for};
 ghost use Rattle.flat_policy.specs.Windows.{begun_warp, expired_warp, expired_window, may_pass, opened_window, renewed_deadline, window_after, window_over};
-ghost use Rattle.windows.specs.OneLane.{lane_window};
+ghost use Rattle.windows.specs.OneLane.{is_ending, is_running, lane_window};
 
 use flat_policy::lanes::{Kind, Starved, Warp};
 use flat_policy::setup::Times;
@@ -89,6 +89,26 @@ impl Window {
         } else {
             warped
         }
+    }
+
+    /// Whether its warp or its starvation window runs.
+    pub fn is_running(self) -> bool
+        ensures { result ≡ is_running self.warp self.starved }
+    {
+        matches!(self.warp, Warp::Until(_)) || matches!(self.starved, Starved::Since(_))
+    }
+
+    /// Whether the windows change when they expire: the end of the warp has come, or the starvation
+    /// window has lasted for QUANTUM.
+    pub fn is_ending(self, times: Times, now: u64) -> bool
+        ensures { (ts : List Times) (at : Lane) → times_for ts at.bucket ≡ times
+            → result ≡ is_ending ts now (lane_window at self) }
+    {
+        let warp_ends = match self.warp {
+            Warp::Until(end) => end <= now,
+            _ => false,
+        };
+        warp_ends || is_over(self.starved, times.quantum, now)
     }
 
     /// Whether the lane may pass an earlier deadline: it has a warp, and that isn't spent.

@@ -10,8 +10,8 @@ returns-clause-none c =
     let lane : c.map.result ≡ option_map (λ (d : Due). d.lane) c.sooner-first-10.result = search rules in
     let pass : c.sooner-first-10.result ≡ passed t.filled t.deadlines = cc in
     rw (lane, pass) (none_is t.filled t.deadlines
-    (ap (λ (u : LaneTable). length u.filled) (sym c.self.view_is))
-    (ap (λ (u : LaneTable). length u.deadlines) (sym c.self.view_is) ∙ c.self.told))
+    (ap (λ (u : LaneTable). length u.filled) (sym c.self.view_is) ∙ c.self.invariant.flags)
+    (ap (λ (u : LaneTable). length u.deadlines) (sym c.self.view_is) ∙ c.self.invariant.numbers))
 
 pub returns-clause-first : goal.returns-clause-first
 returns-clause-first c windows are =
@@ -19,6 +19,6 @@ returns-clause-first c windows are =
     let lane : c.map.result ≡ option_map (λ (d : Due). d.lane) c.sooner-first-10.result = search rules in
     let pass : c.sooner-first-10.result ≡ passed t.filled t.deadlines = cc in
     rw (lane, pass) (earliest_is t.filled t.deadlines
-    (ap (λ (u : LaneTable). length u.filled) (sym c.self.view_is))
-    (ap (λ (u : LaneTable). length u.deadlines) (sym c.self.view_is) ∙ c.self.told)
+    (ap (λ (u : LaneTable). length u.filled) (sym c.self.view_is) ∙ c.self.invariant.flags)
+    (ap (λ (u : LaneTable). length u.deadlines) (sym c.self.view_is) ∙ c.self.invariant.numbers)
     windows are)

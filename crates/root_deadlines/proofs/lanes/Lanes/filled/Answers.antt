@@ -1,6 +1,0 @@
-use Rattle.root_deadlines.proofs.Flags.{read_is}
-use Rattle.root_deadlines.proofs.lanes.Lanes.filled.Goals as goal
-
-pub returns : goal.returns
-returns c =
-    rw (← c.self.view_is) (read_is c.self.inside.filled c.args.lane.bucket c.args.lane.bound c.place.result c.place.ensures.place)
