@@ -5,3 +5,8 @@ pub mod Chosen
 pub mod EachLane
 pub mod Places
 pub mod FlagPlaces
+pub mod AtLane
+pub mod AnyPick
+pub mod Events
+pub mod AtChoice
+pub mod WarpRuns
