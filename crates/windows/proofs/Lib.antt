@@ -10,3 +10,4 @@ pub mod AnyPick
 pub mod Events
 pub mod AtChoice
 pub mod WarpRuns
+pub mod StarvationRuns
