@@ -61,17 +61,17 @@ behind_never at true e h =
       | inl t ↦ (let f = sym (ap (λ b. cond b (Some Starve) None) t) ∙ h in starve_is_no_pass (same_Some Starve Pass f))
       | inr t ↦ none-some Pass (sym (ap (λ b. cond b (Some Starve) None) t) ∙ h)
     ]
-    where
-      starve_is_no_pass : Starve ≡ Pass → ⊥
-      starve_is_no_pass h = grind arith
+  where
+    starve_is_no_pass : Starve ≡ Pass → ⊥
+    starve_is_no_pass h = grind arith
 behind_never at false e h =
     elim (cases_Bool (same_lane e.lane at)) [
       | inl t ↦ (let f = sym (ap (λ b. cond b (Some Natural) None) t) ∙ h in natural_is_no_pass (same_Some Natural Pass f))
       | inr t ↦ none-some Pass (sym (ap (λ b. cond b (Some Natural) None) t) ∙ h)
     ]
-    where
-      natural_is_no_pass : Natural ≡ Pass → ⊥
-      natural_is_no_pass h = grind arith
+  where
+    natural_is_no_pass : Natural ≡ Pass → ⊥
+    natural_is_no_pass h = grind arith
 
 against : (ts : List Times) (x : Flat) (at : Lane) (e : LaneWindow) (o : Option LaneWindow) → passing_of ts (filled_lanes x) e ≡ o → kind_at at (Some (choice_against o (filled_lanes x) e)) ≡ Some Pass → Passing ts x at
 against ts x at e None p h = absurd (behind_never at (some_higher (higher_of (filled_lanes x) e)) e h)

@@ -34,13 +34,13 @@ at_changed at changed P Q f keeps step ls a =
     (λ l h p. (let is : l.lane ≡ at = same_lane_is l.lane at h in
     subst (λ b. Q (cond b (f l) l)) (turned l.lane at changed is) (step l is p)))
     ls a
-    where
-      turned : (x at changed : Lane) → x ≡ at → same_lane changed at ≡ same_lane x changed
-      turned x at changed is =
-          elim (cases_Bool (same_lane changed at)) [
-            | inl e ↦ e ∙ sym (subst (λ y. same_lane x y ≡ true) (is ∙ sym (same_lane_is changed at e)) (same_lane_itself x))
-            | inr e ↦ elim (cases_Bool (same_lane x changed)) [
-              | inl f ↦ absurd (false≢true (sym e ∙ subst (λ y. same_lane changed y ≡ true) (sym (same_lane_is x changed f) ∙ is) (same_lane_itself changed)))
-              | inr f ↦ e ∙ sym f
-            ]
+  where
+    turned : (x at changed : Lane) → x ≡ at → same_lane changed at ≡ same_lane x changed
+    turned x at changed is =
+        elim (cases_Bool (same_lane changed at)) [
+          | inl e ↦ e ∙ sym (subst (λ y. same_lane x y ≡ true) (is ∙ sym (same_lane_is changed at e)) (same_lane_itself x))
+          | inr e ↦ elim (cases_Bool (same_lane x changed)) [
+            | inl f ↦ absurd (false≢true (sym e ∙ subst (λ y. same_lane changed y ≡ true) (sym (same_lane_is x changed f) ∙ is) (same_lane_itself changed)))
+            | inr f ↦ e ∙ sym f
           ]
+        ]

@@ -128,10 +128,10 @@ filled_fits ts at filled now first ls a =
     (renewed_deadline ts now) (λ l. refl)
     (λ l is p. renewed_fits (same_lane filled at) l p)
     ls a
-    where
-      renewed_fits : (here : Bool) (l : LaneWindow) → StarveFits first l.starved → StarveFits (unless_renewed here first) (cond here (renewed_deadline ts now l) l).starved
-      renewed_fits true l p = refl
-      renewed_fits false l p = p
+  where
+    renewed_fits : (here : Bool) (l : LaneWindow) → StarveFits first l.starved → StarveFits (unless_renewed here first) (cond here (renewed_deadline ts now l) l).starved
+    renewed_fits true l p = refl
+    renewed_fits false l p = p
 
 -- each event keeps the window, and what it leaves fits
 keeps_window : (ts : List Times) (at : Lane) (first : Option ℕ) (s next : Flat) (e : WindowEvent) → IsTimeshare at → 0 < quantum_at ts at → HasTenLanes s → LanesBy ts s next e → FitsAt at first s.lanes → EventKeepsWindow ts s at first e × FitsAt at (first_starve_by ts s at first e) next.lanes
@@ -149,7 +149,7 @@ keeps_window ts at first s next (select_at now) among some ten h a =
       (
         renews_in_time (quantum_at ts at) now first (window_ends ts s now at) ends,
         subst (λ b. StarveIsWithin (quantum_at ts at) (unless_renewed b first) now k) (sym ends)
-        (kind_within (quantum_at ts at) now left k some (still_open (quantum_at ts at) now first over refl)),
+            (kind_within (quantum_at ts at) now left k some (still_open (quantum_at ts at) now first over refl)),
       ),
       subst (λ b. FitsAt at (first_starve_after (unless_renewed b first) now k) next.lanes) (sym ends) fits,
     )

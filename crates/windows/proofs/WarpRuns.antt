@@ -126,9 +126,9 @@ keeps_warp ts at first s next (select_at now) ten h a =
     let k : Option Kind = kind_at at (chosen ts x) in (
       kind_within ts at now first x stands k refl,
       subst (FitsAt ts at (first_pass_after first now k)) (sym (ap (λ (u : Flat). u.lanes) h ∙ selected_lanes ts now s ten))
-      (at_choice at ts now (λ (l : LaneWindow). WarpStands (span_at ts at) now first l.warp)
-      (λ (l : LaneWindow). WarpFits (span_at ts at) (first_pass_after first now k) l.warp) (chosen ts x)
-      (λ l is p. chosen_fits ts at now first k l is p) x.lanes stands),
+          (at_choice at ts now (λ (l : LaneWindow). WarpStands (span_at ts at) now first l.warp)
+          (λ (l : LaneWindow). WarpFits (span_at ts at) (first_pass_after first now k) l.warp) (chosen ts x)
+          (λ l is p. chosen_fits ts at now first k l is p) x.lanes stands),
     )
 keeps_warp ts at first s next (lane_fills filled) ten h a =
     (tt, subst (FitsAt ts at first) (sym h.1) (filled_fits ts at filled h.0 first s.lanes a))
