@@ -7,3 +7,9 @@ pub mod EachLane
 pub mod Places
 pub mod FlagPlaces
 pub mod Running
+pub mod AtLane
+pub mod AnyPick
+pub mod Events
+pub mod AtChoice
+pub mod WarpRuns
+pub mod StarvationRuns

@@ -1,0 +1,162 @@
+-- What each line of a cluster does to the windows of its lanes.
+use Rattle.std.proofs.Common.{◌≡◌, ℕ, ◌==◌, Bool, true, false, not, ◌||◌, cond, Contains, List, map, Option, Some, None, is_some, option_and_then, refl, sym, ap, ◌∙◌, subst}
+use Rattle.std.proofs.lemmas.Bool.{cond_both}
+use Rattle.sched_base.specs.declared.Act.{Act}
+use Rattle.sched_base.specs.declared.Facts.{Facts}
+use Rattle.sched_base.specs.declared.Answer.TheVariants as answers
+use Rattle.sched_base.specs.declared.Act.TheVariants as acts
+use Rattle.bucket_tables.specs.declared.Lane.{Lane}
+use Rattle.flat_policy.specs.declared.journal.Line.{Line}
+use Rattle.flat_policy.specs.declared.lanes.Kind.{Kind}
+use Rattle.flat_policy.specs.declared.setup.Times.{Times}
+use Rattle.flat_policy.specs.ClusterSteps.{Event, facts_of, flat_after_offer, got, named_entry, touched}
+use Rattle.flat_policy.specs.Moves.{clutch_has_entries, entered, lanes_filled, pick, pick_in, removed, removed_by_selection, selected, selected_by, turn_on_entering, turn_on_leaving, turn_on_selection, with_entry, with_next_turn, without_entry, without_turn}
+use Rattle.flat_policy.specs.Offer.{offered_between}
+use Rattle.flat_policy.specs.Places.{actor_of, flat_after, flat_after_entering, flat_after_pulling, moment_of}
+use Rattle.flat_policy.specs.Precedence.{clutch_priority}
+use Rattle.flat_policy.specs.Queue.{Clutch, Flat, LaneWindow, Queued, clutch_of, has_entries, lane_of, timeshare_lanes}
+use Rattle.flat_policy.specs.Refresh.{all_clutches, refreshed, turn_on_refresh, with_new_prices}
+use Rattle.flat_policy.specs.Setup.{SetupParts, cluster_times, group_count, home_of}
+use Rattle.flat_policy.specs.WindowLaws.{WindowEvent, event_if_empty, event_if_on, event_of_entering, lane_fills, no_event, select_at, window_event}
+use Rattle.flat_policy.specs.Windows.{Choice, at_lane, chosen, expired, expired_window, renewed_deadline, window_after, windows_after}
+use Rattle.flat_policy.proofs.ChosenLane.{chooses_filled}
+use Rattle.flat_policy.proofs.KeptLanes.{at_lane_keeps, expired_keeps, lane_names, map_keeps_lanes, window_keeps}
+use Rattle.flat_policy.proofs.Refreshes.{fold_keeps}
+use Rattle.windows.proofs.AnyPick.{pick_in_lane}
+
+-- the windows of each of the ten lanes stand in the lanes' order
+abbrev pub HasTenLanes : Flat → Type 0
+HasTenLanes s = lane_names s.lanes ≡ timeshare_lanes
+
+-- the lanes after an event
+abbrev pub LanesBy : List Times → Flat → Flat → WindowEvent → Type 0
+LanesBy ts s next (select_at now) = next ≡ selected ts now s
+LanesBy ts s next (lane_fills at) = (now : ℕ) × (next.lanes ≡ at_lane at (renewed_deadline ts now) s.lanes)
+LanesBy ts s next no_event = next.lanes ≡ s.lanes
+
+removed_lanes : (e : Queued) (now : ℕ) (s : Flat) → (removed e now s).lanes ≡ s.lanes
+removed_lanes e now s =
+    let after : Flat = without_entry e now s in
+    let k : Clutch = clutch_of e.facts in
+    let P : Flat → Type 0 = λ (u : Flat). u.lanes ≡ s.lanes in
+    let same : Bool = clutch_priority s k == clutch_priority after k in
+    cond_both (is_some e.facts.bound) after (turn_on_leaving s k after) P (λ h. refl)
+    (λ h. cond_both (not (clutch_has_entries after k)) (without_turn k after) (cond same after (with_next_turn k after)) P (λ f. refl)
+    (λ f. cond_both same after (with_next_turn k after) P (λ g. refl) (λ g. refl)))
+
+selection_lanes : (e : Queued) (now : ℕ) (s : Flat) → (removed_by_selection e now s).lanes ≡ s.lanes
+selection_lanes e now s =
+    let after : Flat = without_entry e now s in
+    let k : Clutch = clutch_of e.facts in
+    let P : Flat → Type 0 = λ (u : Flat). u.lanes ≡ s.lanes in
+    cond_both (is_some e.facts.bound) after (turn_on_selection k after) P (λ h. refl)
+    (λ h. cond_both (clutch_has_entries after k) (with_next_turn k after) (without_turn k after) P (λ f. refl) (λ f. refl))
+
+entered_lanes : (ts : List Times) (t : Facts) (head : Bool) (now : ℕ) (s : Flat) → (entered ts t head now s).lanes ≡ lanes_filled ts now s (lane_of t)
+entered_lanes ts t head now s =
+    let after : Flat = with_entry ts t head now s in
+    let k : Clutch = clutch_of t in
+    let P : Flat → Type 0 = λ (u : Flat). u.lanes ≡ lanes_filled ts now s (lane_of t) in
+    cond_both (is_some t.bound) after (turn_on_entering s k after) P (λ h. refl)
+    (λ h. cond_both (not (clutch_has_entries s k) || not (clutch_priority s k == clutch_priority after k)) (with_next_turn k after) after P (λ e. refl) (λ e. refl))
+
+refreshed_lanes : (groups : ℕ) (s : Flat) (now : ℕ) → (refreshed groups s now).lanes ≡ s.lanes
+refreshed_lanes groups s now =
+    fold_keeps (turn_on_refresh s) (λ (b : Flat). b.lanes ≡ s.lanes) (all_clutches groups)
+    (λ b k c h. cond_both (clutch_priority s k == clutch_priority b k) b (with_next_turn k b) (λ (u : Flat). u.lanes ≡ s.lanes) (λ e. h) (λ e. h))
+    (with_new_prices s now) refl
+
+offer_lanes : (now : ℕ) (s : Flat) (o : Option Queued) → (flat_after_offer now s o).lanes ≡ s.lanes
+offer_lanes now s None = refl
+offer_lanes now s (Some e) = removed_lanes e now s
+
+pull_lanes : (s : Flat) (l : Line) (o : Option Queued) → (flat_after_pulling s l o).lanes ≡ s.lanes
+pull_lanes s l None = refl
+pull_lanes s l (Some e) = removed_lanes e (moment_of l) s
+
+by_filling : (ts : List Times) (s next : Flat) (now : ℕ) (there : Bool) (at : Lane) → next.lanes ≡ cond there s.lanes (at_lane at (renewed_deadline ts now) s.lanes) → LanesBy ts s next (event_if_empty there at)
+by_filling ts s next now true at h = h
+by_filling ts s next now false at h = (now, h)
+
+by_entering : (setup : SetupParts) (c : ℕ) (s : Flat) (l : Line) (head : Bool) (o : Option Facts) → LanesBy (cluster_times setup c) s (flat_after_entering setup c s l head o) (event_of_entering s o)
+by_entering setup c s l head None = refl
+by_entering setup c s l head (Some t) =
+    by_filling (cluster_times setup c) s (entered (cluster_times setup c) t head (moment_of l) s) (moment_of l) (has_entries s (lane_of t)) (lane_of t)
+    (entered_lanes (cluster_times setup c) t head (moment_of l) s)
+
+by_selecting : (ts : List Times) (now : ℕ) (s : Flat) (on : Bool) (told other : Event) → told.flat ≡ selected ts now s → other.flat.lanes ≡ s.lanes → LanesBy ts s (cond on told other).flat (event_if_on on now)
+by_selecting ts now s true told other h k = h
+by_selecting ts now s false told other h k = k
+
+pub lanes_by : (setup : SetupParts) (c : ℕ) (s : Flat) (l : Line) (act : Act) → LanesBy (cluster_times setup c) s (flat_after setup c s l act) (window_event s l act)
+lanes_by setup c s l (acts.Make name group bucket base bound) = refl
+lanes_by setup c s l (acts.Enter at head) = by_entering setup c s l head l.entry.thread
+lanes_by setup c s l acts.Select =
+    by_selecting (cluster_times setup c) (moment_of l) s s.on
+    (record {
+      answer = got (pick (cluster_times setup c) (moment_of l) s);
+      thread = facts_of (pick (cluster_times setup c) (moment_of l) s);
+      flat = selected (cluster_times setup c) (moment_of l) s;
+    })
+    (record { answer = answers.Off; thread = None; flat = touched (moment_of l) s })
+    refl refl
+lanes_by setup c s l (acts.Offer at) = offer_lanes (moment_of l) s (offered_between setup c (home_of setup (actor_of l)) s)
+lanes_by setup c s l (acts.Pull name) = pull_lanes s l (named_entry s name)
+lanes_by setup c s l (acts.Look at) = refl
+lanes_by setup c s l acts.Aim = refl
+lanes_by setup c s l (acts.Ran us) = refl
+lanes_by setup c s l acts.Sleep = refl
+lanes_by setup c s l (acts.Wake name) = refl
+lanes_by setup c s l acts.End = refl
+lanes_by setup c s l acts.Blocked = refl
+lanes_by setup c s l acts.Refresh = refreshed_lanes (group_count setup) s (moment_of l)
+lanes_by setup c s l (acts.Off at) = refl
+lanes_by setup c s l (acts.On at) = refl
+
+-- a window after a choice of its lane by deadlines, or of another
+abbrev pub after_kind : List Times → ℕ → Option Kind → LaneWindow → LaneWindow
+after_kind ts now None l = l
+after_kind ts now (Some kind) l = window_after ts now kind l
+
+-- the lanes after a choice
+abbrev lanes_after : List Times → ℕ → Option Kind → Lane → List LaneWindow → List LaneWindow
+lanes_after ts now None at ls = ls
+lanes_after ts now (Some kind) at ls = at_lane at (window_after ts now kind) ls
+
+abbrev pub lanes_chosen : List Times → ℕ → Option Choice → List LaneWindow → List LaneWindow
+lanes_chosen ts now None ls = ls
+lanes_chosen ts now (Some c) ls = lanes_after ts now c.kind c.lane ls
+
+windows_lanes : (ts : List Times) (now : ℕ) (k : Option Kind) (at : Lane) (s : Flat) → (windows_after ts now k at s).lanes ≡ lanes_after ts now k at s.lanes
+windows_lanes ts now None at s = refl
+windows_lanes ts now (Some kind) at s = refl
+
+expired_ten : (ts : List Times) (s : Flat) (now : ℕ) → HasTenLanes s → HasTenLanes (expired ts s now)
+expired_ten ts s now ten = map_keeps_lanes (expired_window ts now) (expired_keeps ts now) s.lanes ∙ ten
+
+-- what is chosen is picked, so that its lane's windows change
+selected_lanes_by : (ts : List Times) (now : ℕ) (x : Flat) → HasTenLanes x → (o : Option Choice) → chosen ts x ≡ o → (selected_by ts now x o (option_and_then (λ (c : Choice). pick_in x c.lane) o)).lanes ≡ lanes_chosen ts now o x.lanes
+selected_lanes_by ts now x ten None is = refl
+selected_lanes_by ts now x ten (Some c) is =
+    let p = pick_in_lane x c.lane ((chooses_filled ts x ten).filled c is) in
+    subst (λ (o : Option Queued). (selected_by ts now x (Some c) o).lanes ≡ lanes_after ts now c.kind c.lane x.lanes) (sym p.1)
+    (windows_lanes ts now c.kind c.lane (removed_by_selection p.0 now x) ∙ ap (lanes_after ts now c.kind c.lane) (selection_lanes p.0 now x))
+
+pub selected_lanes : (ts : List Times) (now : ℕ) (s : Flat) → HasTenLanes s → (selected ts now s).lanes ≡ lanes_chosen ts now (chosen ts (expired ts s now)) (expired ts s now).lanes
+selected_lanes ts now s ten = selected_lanes_by ts now (expired ts s now) (expired_ten ts s now ten) (chosen ts (expired ts s now)) refl
+
+names_after : (ts : List Times) (now : ℕ) (k : Option Kind) (at : Lane) (ls : List LaneWindow) → lane_names (lanes_after ts now k at ls) ≡ lane_names ls
+names_after ts now None at ls = refl
+names_after ts now (Some kind) at ls = at_lane_keeps at (window_after ts now kind) (window_keeps ts now kind) ls
+
+names_chosen : (ts : List Times) (now : ℕ) (o : Option Choice) (ls : List LaneWindow) → lane_names (lanes_chosen ts now o ls) ≡ lane_names ls
+names_chosen ts now None ls = refl
+names_chosen ts now (Some c) ls = names_after ts now c.kind c.lane ls
+
+-- each event leaves the lanes in their order
+pub ten_by : (ts : List Times) (s next : Flat) (e : WindowEvent) → HasTenLanes s → LanesBy ts s next e → HasTenLanes next
+ten_by ts s next (select_at now) ten h =
+    let x : Flat = expired ts s now in
+    ap (λ (u : Flat). lane_names u.lanes) h ∙ (ap lane_names (selected_lanes ts now s ten) ∙ (names_chosen ts now (chosen ts x) x.lanes ∙ expired_ten ts s now ten))
+ten_by ts s next (lane_fills at) ten h = ap lane_names h.1 ∙ (at_lane_keeps at (renewed_deadline ts h.0) (λ l. refl) s.lanes ∙ ten)
+ten_by ts s next no_event ten h = ap lane_names h ∙ ten
