@@ -1,6 +1,12 @@
+pub mod Again
+pub mod Arrays
+pub mod Each
 pub mod Items
 pub mod Joins
 pub mod Json
 pub mod Meanings
+pub mod Objects
 pub mod OfLine
+pub mod Passes
+pub mod Rows
 pub mod Written

@@ -1,6 +1,8 @@
 //! The setup line: read and written, as JSON.
 #![tactic(auto)]
 
+pub mod laws;
+
 mod fault;
 mod numbers;
 mod reader;
