@@ -1,22 +1,16 @@
 -- Lists of numbers as JSON: what is written of them, and what is read of that.
-use Rattle.std.proofs.Common.{◌≡◌, ℕ, zero, suc, ◌+◌, ◌<◌, ◌≤◌, ◌^◌, List, [], ◌∷◌, ◌++◌, Bool, true, false, cond, Some, IsUtf8, option_map, option_and_then, length, map, decimal, refl, sym, ◌∙◌, ap, append_assoc, append-nil, arith}
+use Rattle.std.proofs.Common.{◌≡◌, ℕ, suc, ◌<◌, ◌≤◌, ◌^◌, List, [], ◌∷◌, ◌++◌, Bool, true, false, Some, IsUtf8, option_map, option_and_then, map, decimal, refl, sym, ◌∙◌, ap, append_assoc, arith}
 use Rattle.std.proofs.lemmas.Fmt.{IsAscii-decimal}
-use Rattle.std.proofs.lemmas.Str.{IsUtf8-append, IsUtf8-from_ascii, IsUtf8-nil, is_utf8-from_IsUtf8}
+use Rattle.std.proofs.lemmas.Str.{IsUtf8-append, IsUtf8-from_ascii, IsUtf8-nil}
 use Rattle.std.specs.List.{join_with_byte}
-use Rattle.flat_policy.specs.Texts.SetupLines.{bracketed, json_of, numbers_text}
+use Rattle.flat_policy.specs.Texts.SetupLines.{bracketed, numbers_text}
 use Rattle.json.proofs.Printed.Decimals.{IsNumber-decimal}
-use Rattle.json.proofs.Printed.Tokens.{tokens-print}
-use Rattle.json.proofs.Printed.Trees.{ArePrintable-json_tokens, value-json_tokens}
-use Rattle.json.proofs.Printed.Utf8.{IsUtf8-are_ascii, IsUtf8-key}
-use Rattle.json.specs.Json as json
-use Rattle.json.specs.Lex.{tokens}
-use Rattle.json.specs.Token.{Token}
+use Rattle.json.proofs.Printed.Utf8.{IsUtf8-are_ascii}
 use Rattle.json.specs.Tree as tree
 use Rattle.serde_json.proofs.Numbers.{number_of-decimal}
-use Rattle.serde_json.proofs.Texts.{print-outline}
-use Rattle.serde_json.specs.Data.{Data, Items, Members, array, item, member, no_items, no_members, number, object, put, unsigned}
-use Rattle.serde_json.specs.Read.{max_depth, of_items, of_json, of_members, read}
-use Rattle.serde_json.specs.Written.{comma_if, compact_text, items_outline, items_text, members_outline, members_text, outline}
+use Rattle.serde_json.specs.Data.{Data, Items, array, item, no_items, number, unsigned}
+use Rattle.serde_json.specs.Read.{of_items, of_json}
+use Rattle.serde_json.specs.Written.{comma_if, compact_text, items_outline, items_text, outline}
 use Rattle.setup_json.proofs.Each.{Each, each_so}
 
 -- the items of a list
@@ -77,7 +71,7 @@ record AreAgain (n : ℕ) (ds : Items) : Type 0 where
   shallow : tree.items_depth (items_outline ds) ≤ n
   text : (later : Bool) → IsUtf8 (items_text later ds)
 
-comma_utf8 : (later : Bool) → IsUtf8 (comma_if later)
+pub comma_utf8 : (later : Bool) → IsUtf8 (comma_if later)
 comma_utf8 true = IsUtf8-are_ascii (44 ∷ []) refl
 comma_utf8 false = IsUtf8-nil
 

@@ -1,5 +1,6 @@
 pub mod Again
 pub mod Arrays
+pub mod Canonical
 pub mod Each
 pub mod Items
 pub mod Joins

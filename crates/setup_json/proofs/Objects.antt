@@ -1,20 +1,19 @@
 -- A setup's object: its members, their text, and what is read of it.
-use Rattle.std.proofs.Common.{◌≡◌, ℕ, zero, suc, ◌+◌, ◌<◌, ◌≤◌, List, [], ◌∷◌, ◌++◌, Bool, true, false, cond, ◌==◌, Some, IsUtf8, codes, option_map, option_and_then, length, map, decimal, refl, sym, ◌∙◌, ap, append_assoc, append-nil, arith}
-use Rattle.std.proofs.lemmas.Str.{IsUtf8-append, IsUtf8-from_ascii, IsUtf8-nil, is_utf8-from_IsUtf8}
-use Rattle.flat_policy.specs.Texts.SetupLines.{bracketed, json_of, numbers_text}
+use Rattle.std.proofs.Common.{◌≡◌, ℕ, suc, ◌≤◌, List, [], ◌∷◌, ◌++◌, Bool, true, false, Some, IsUtf8, option_map, option_and_then, refl, sym, ◌∙◌, ap, append-nil, arith}
+use Rattle.std.proofs.lemmas.Str.{IsUtf8-append, IsUtf8-nil, is_utf8-from_IsUtf8}
+use Rattle.flat_policy.specs.Texts.SetupLines.{json_of}
 use Rattle.json.proofs.Printed.Tokens.{tokens-print}
 use Rattle.json.proofs.Printed.Trees.{ArePrintable-json_tokens, value-json_tokens}
 use Rattle.json.proofs.Printed.Utf8.{IsUtf8-are_ascii, IsUtf8-quoted}
 use Rattle.json.specs.Json as json
 use Rattle.json.specs.Lex.{tokens}
 use Rattle.json.specs.Print.{quoted}
-use Rattle.json.specs.Token.{Token}
 use Rattle.json.specs.Tree as tree
 use Rattle.serde_json.proofs.Texts.{print-outline}
 use Rattle.serde_json.specs.Data.{Data, Members, member, no_members, object, put}
 use Rattle.serde_json.specs.Read.{max_depth, of_json, of_members, read}
 use Rattle.serde_json.specs.Written.{comma_if, compact_text, members_outline, members_text, outline}
-use Rattle.setup_json.proofs.Arrays.{IsAgain}
+use Rattle.setup_json.proofs.Arrays.{IsAgain, comma_utf8}
 
 -- ---- members whose text is read as they are
 
@@ -30,10 +29,6 @@ pub record MembersAgain (n : ℕ) (ms : Members) : Type 0 where
 
 pub none_again : (n : ℕ) → MembersAgain n no_members
 none_again n = record { read = λ found. refl; numbers = tt; shallow = omega arith; text = λ later. IsUtf8-are_ascii (125 ∷ []) refl }
-
-comma_utf8 : (later : Bool) → IsUtf8 (comma_if later)
-comma_utf8 true = IsUtf8-are_ascii (44 ∷ []) refl
-comma_utf8 false = IsUtf8-nil
 
 pub member_again : (n : ℕ) (k : List ℕ) (d : Data) (ms : Members) → IsUtf8 k → IsAgain n d → MembersAgain n ms → MembersAgain n (member k d ms)
 member_again n k d ms key first rest =

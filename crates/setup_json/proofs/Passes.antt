@@ -1,17 +1,17 @@
 -- The rows of a setup pass the tests of their ranges.
-use Rattle.std.proofs.Common.{◌≡◌, ◌≢◌, ℕ, zero, suc, ◌+◌, ◌<◌, ◌≤◌, List, [], ◌∷◌, All, AllPairs, Bool, true, false, ◌&&◌, ◌||◌, ◌==◌, not, length, map, nat_le, nat_lt, refl, sym, ◌∙◌, ap, arith, le-leb, lt-ltb, ne_eqb, eqb-true, eq-eqb, sum_by}
-use Rattle.std.proofs.lemmas.Bool.{and_from, and_parts}
+use Rattle.std.proofs.Common.{◌≡◌, ℕ, suc, ◌+◌, ◌<◌, ◌≤◌, List, [], ◌∷◌, AllPairs, Bool, true, false, ◌&&◌, ◌==◌, not, length, map, nat_le, nat_lt, refl, sym, ◌∙◌, ap, arith, le-leb, lt-ltb, ne_eqb, eqb-true, eq-eqb, sum_by}
+use Rattle.std.proofs.lemmas.Bool.{and_from}
 use Rattle.std.proofs.lemmas.List.{length-map}
 use Rattle.std.proofs.lemmas.List.Folds.{fold-map}
 use Rattle.std.specs.List.{list_all, list_any}
 use Rattle.flat_policy.specs.IsSetup.{IsCluster, IsClusterTimes, IsEdge, IsGroup, IsSetup, IsTimes, OtherEnds}
 use Rattle.flat_policy.specs.Ranges.{all_below, between, clusters_in_range, edges_in_range, ends_differ, groups_in_range, is_cluster_row, is_edge_row, is_times_row, nth, same_ends, threads_in_range, times_in_range}
-use Rattle.flat_policy.specs.Setup.{ClusterParts, SetupParts, actor_count, cluster_count, times_for}
+use Rattle.flat_policy.specs.Setup.{ClusterParts, SetupParts, cluster_count, times_for}
 use Rattle.flat_policy.specs.Texts.SetupLines.{flag_number}
 use Rattle.flat_policy.specs.declared.setup.EdgeSpec.{EdgeSpec}
 use Rattle.flat_policy.specs.declared.setup.Times.{Times}
 use Rattle.sched_base.specs.declared.Bucket.TheVariants.{Ui}
-use Rattle.setup_json.proofs.Each.{Each, each_from, each_mapped, each_passes, each_so}
+use Rattle.setup_json.proofs.Each.{Each, each_from, each_mapped, each_passes}
 use Rattle.setup_json.proofs.Rows.{quanta, row_of_cluster, row_of_edge, rows_of_times, warps, wcels}
 
 pub between_from : (low high n : ℕ) → low ≤ n → n ≤ high → between low high n ≡ true

@@ -1,18 +1,14 @@
 -- The rows of numbers that a setup is written as.
-use Rattle.std.proofs.Common.{◌≡◌, ◌≢◌, ◌⊎◌, ℕ, zero, suc, ◌+◌, ◌<◌, ◌≤◌, ◌^◌, List, [], ◌∷◌, All, AllPairs, Bool, true, false, ◌&&◌, ◌==◌, not, length, map, nat_le, nat_lt, refl, sym, ◌∙◌, ap, arith, inl, inr, le-leb, lt-ltb, ne_eqb, eqb-true, eq-eqb}
-use Rattle.std.proofs.lemmas.Bool.{and_from, and_parts}
+use Rattle.std.proofs.Common.{◌≡◌, ℕ, ◌<◌, ◌≤◌, List, [], ◌∷◌, Bool, true, false, ◌==◌, length, map, refl, ◌∙◌, ap, arith}
 use Rattle.std.proofs.lemmas.List.{length-map}
-use Rattle.std.proofs.lemmas.List.Folds.{fold-map}
-use Rattle.std.specs.List.{list_all, list_any}
-use Rattle.std.specs.Prelude.{sum_by}
-use Rattle.flat_policy.specs.IsSetup.{IsCluster, IsClusterTimes, IsEdge, IsGroup, IsSetup, IsTimes, OtherEnds}
-use Rattle.flat_policy.specs.Ranges.{all_below, between, cluster_of_row, clusters_in_range, edge_of_row, edges_in_range, ends_differ, groups_in_range, is_cluster_row, is_edge_row, is_times_row, nth, same_ends, threads_in_range, times_in_range, times_of_rows}
-use Rattle.flat_policy.specs.Setup.{ClusterParts, SetupParts, cluster_count, numbers_below}
+use Rattle.flat_policy.specs.IsSetup.{IsCluster, IsClusterTimes, IsEdge, IsGroup, IsTimes}
+use Rattle.flat_policy.specs.Ranges.{cluster_of_row, edge_of_row, times_of_rows}
+use Rattle.flat_policy.specs.Setup.{ClusterParts, numbers_below}
 use Rattle.flat_policy.specs.Texts.SetupLines.{flag_number}
 use Rattle.flat_policy.specs.declared.setup.EdgeSpec.{EdgeSpec}
 use Rattle.flat_policy.specs.declared.setup.Times.{Times}
 use Rattle.setup_json.proofs.Arrays.{Small, SmallRow, SmallTable}
-use Rattle.setup_json.proofs.Each.{Each, each_from, each_mapped, each_passes, each_so, mapped_back}
+use Rattle.setup_json.proofs.Each.{Each, each_from, each_mapped, each_so, mapped_back}
 
 abbrev pub row_of_cluster : ClusterParts → List ℕ
 row_of_cluster k = k.cpus ∷ k.rate ∷ []

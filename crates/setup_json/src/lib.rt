@@ -1,9 +1,8 @@
 //! The setup line: read and written, as JSON.
 #![tactic(auto)]
 
-pub mod laws;
-
 mod fault;
+pub mod laws;
 mod numbers;
 mod reader;
 mod shapes;
