@@ -155,4 +155,3 @@ pub json_of_setup : (s : SetupParts) → IsSetup s → json_of (setup_text s) �
 json_of_setup s is =
     let order = in_order (s.version == 2) (map row_of_cluster s.clusters) (map row_of_edge s.edges) s.groups s.threads (map rows_of_times s.times) s.version in
     ap json_of (sym (text_of_setup s)) ∙ json_again (object (members_of s)) 4 (object_again 3 (members_of s) order (members_again s is)) (omega arith)
-
