@@ -105,9 +105,9 @@ array_again f n xs each =
       text = IsUtf8-append (91 ∷ []) (items_text false (items_of f xs)) (IsUtf8-are_ascii (91 ∷ []) refl) (items.text false);
     }
 
--- numbers of 64 bits, in rows, in tables, in tables of tables
+-- numbers of eight digits at the most, in rows, in tables, in tables of tables
 abbrev pub Small : ℕ → Type 0
-Small n = n < 2 ^ 64
+Small n = n < 10 ^ 8
 
 abbrev pub SmallRow : List ℕ → Type 0
 SmallRow row = Each Small row
@@ -116,7 +116,7 @@ abbrev pub SmallTable : List (List ℕ) → Type 0
 SmallTable rows = Each SmallRow rows
 
 pub row_again : (row : List ℕ) → SmallRow row → IsAgain 1 (row_data row)
-row_again row small = array_again number_data 0 row (each_so Small (λ n. IsAgain 0 (number_data n)) number_again row small)
+row_again row small = array_again number_data 0 row (each_so Small (λ n. IsAgain 0 (number_data n)) (λ n few. number_again n (omega arith)) row small)
 
 pub table_again : (rows : List (List ℕ)) → SmallTable rows → IsAgain 2 (table_data rows)
 table_again rows small = array_again row_data 1 rows (each_so SmallRow (λ row. IsAgain 1 (row_data row)) row_again rows small)

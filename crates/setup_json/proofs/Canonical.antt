@@ -138,7 +138,7 @@ in_order : (two : Bool) (clusters edges groups : Rows) (threads : ℕ) (times : 
 in_order true clusters edges groups threads times version = refl
 in_order false clusters edges groups threads times version = refl
 
-version_most : (s : SetupParts) → (s.version ≡ 1) ⊎ (s.version ≡ 2) → s.version ≤ 2
+pub version_most : (s : SetupParts) → (s.version ≡ 1) ⊎ (s.version ≡ 2) → s.version ≤ 2
 version_most s (inl one) = omega arith
 version_most s (inr two) = omega arith
 

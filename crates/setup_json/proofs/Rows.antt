@@ -85,29 +85,31 @@ times_long tss each = each_mapped IsClusterTimes IsThreeSixes rows_of_times thre
 
 -- ---- the numbers are small
 
+pub cluster_small : (k : ClusterParts) → IsCluster k → SmallRow (row_of_cluster k)
+cluster_small k is = (omega (arith, is.cpus_most), (omega (arith, is.rate_most), tt))
+
 pub clusters_small : (ks : List ClusterParts) → Each IsCluster ks → SmallTable (map row_of_cluster ks)
-clusters_small ks each =
-    each_mapped IsCluster SmallRow row_of_cluster (λ k is. (omega (arith, is.cpus_most), (omega (arith, is.rate_most), tt))) ks each
+clusters_small ks each = each_mapped IsCluster SmallRow row_of_cluster cluster_small ks each
 
 flag_small : (b : Bool) → flag_number b ≤ 1
 flag_small true = omega arith
 flag_small false = omega arith
 
-edge_small : (count : ℕ) (e : EdgeSpec) → count ≤ 8 → IsEdge count e → SmallRow (row_of_edge e)
+pub edge_small : (count : ℕ) (e : EdgeSpec) → count ≤ 8 → IsEdge count e → SmallRow (row_of_edge e)
 edge_small count e few is =
     (omega (arith, is.from_below), (omega (arith, is.to_below), (omega (arith, is.weight_most), (omega (arith, flag_small e.migrate), (omega (arith, is.mask_below), tt)))))
 
 pub edges_small : (count : ℕ) (es : List EdgeSpec) → count ≤ 8 → Each (IsEdge count) es → SmallTable (map row_of_edge es)
 edges_small count es few each = each_mapped (IsEdge count) SmallRow row_of_edge (λ e is. edge_small count e few is) es each
 
-group_small : (count : ℕ) (row : List ℕ) → count ≤ 8 → IsGroup count row → SmallRow row
+pub group_small : (count : ℕ) (row : List ℕ) → count ≤ 8 → IsGroup count row → SmallRow row
 group_small count row few is =
     each_so (λ c. c < count) Small (λ c below. omega arith) row (each_from (λ c. c < count) row is.below)
 
 pub groups_small : (count : ℕ) (rows : List (List ℕ)) → count ≤ 8 → Each (IsGroup count) rows → SmallTable rows
 groups_small count rows few each = each_so (IsGroup count) SmallRow (λ row is. group_small count row few is) rows each
 
-times_small : (ts : List Times) → IsClusterTimes ts → SmallTable (rows_of_times ts)
+pub times_small : (ts : List Times) → IsClusterTimes ts → SmallTable (rows_of_times ts)
 times_small ts is =
     let each : Each IsTimes ts = each_from IsTimes ts is.each in
     let wcels_small = each_mapped IsTimes Small (λ (t : Times). t.wcel) (λ t is. omega (arith, is.wcel_most)) ts each in
