@@ -1,6 +1,15 @@
+pub mod Again
+pub mod Arrays
+pub mod Canonical
+pub mod Each
+pub mod InLine
 pub mod Items
 pub mod Joins
 pub mod Json
 pub mod Meanings
+pub mod Objects
 pub mod OfLine
+pub mod Passes
+pub mod Rows
+pub mod SetupsInLines
 pub mod Written

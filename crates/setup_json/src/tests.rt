@@ -2,6 +2,7 @@
 
 use super::*;
 use flat_policy::setup::Field;
+use std::alloc::Global;
 use std::test::Fail;
 
 const ONE: &str =
@@ -10,15 +11,27 @@ const ONE: &str =
 const TWO: &str =
     "{\"clusters\":[[1,1000],[1,400]],\"edges\":[[0,1,8000,1,16],[1,0,10000000,0,63]],\"groups\":[[0,0,0,0,0,0],[1,0,1,0,1,0]],\"threads\":4096,\"version\":1}";
 
+const FOUR_ACTORS: &str =
+    "{\"clusters\":[[2,1000],[2,400]],\"edges\":[[0,1,8000,1,48],[1,0,4000,1,63]],\"groups\":[[0,0,0,0,1,1],[0,0,0,1,1,1]],\"threads\":64,\"version\":1}";
+
 const TIMED: &str =
     "{\"clusters\":[[1,1000]],\"edges\":[],\"groups\":[[0,0,0,0,0,0]],\"threads\":8,\"times\":[[[0,0,37500,75000,150000,250000],[0,0,4000,2000,1000,0],[10000,10000,8000,6000,4000,2000]]],\"version\":2}";
+
+const WARPED: &str =
+    "{\"clusters\":[[1,1000]],\"edges\":[],\"groups\":[[0,0,0,0,0,0]],\"threads\":8,\"times\":[[[0,0,37500,75000,150000,250000],[0,8000,4000,2000,1000,0],[10000,10000,8000,6000,4000,2000]]],\"version\":2}";
 
 #[test]
 fn setups_are_written_as_their_canonical_text(rt: HostRuntime) -> Result<(), Fail> {
     let cases = [
         (ONE, ONE),
         (TWO, TWO),
+        (FOUR_ACTORS, FOUR_ACTORS),
         (TIMED, TIMED),
+        (WARPED, WARPED),
+        (
+            "{\"version\":1, \"threads\":8,\"groups\":[[0,0,0,0,0,0]],\"edges\":[],\"clusters\":[[1,1000]]}",
+            ONE,
+        ),
         (
             " {\"version\" : 1,\"threads\":8, \"groups\":[[0,0,0,0,0,0]],\"edges\":[ ],\n\"clusters\":[[1,1000]]}",
             ONE,
@@ -32,6 +45,34 @@ fn setups_are_written_as_their_canonical_text(rt: HostRuntime) -> Result<(), Fai
     Ok(())
 }
 
+/// Eight clusters of one processor, with an edge from each to each other that moves nothing.
+fn every_edge(alloc: Global) -> Result<String, Fail> {
+    let mut line = String::from_str(
+        alloc,
+        "{\"clusters\":[[1,1000],[1,1000],[1,1000],[1,1000],[1,1000],[1,1000],[1,1000],[1,1000]],\"edges\":[",
+    )?;
+    for from in 0..8 {
+        for to in 0..8 {
+            if from != to {
+                let comma = if from == 0 && to == 1 { "" } else { "," };
+                line.push_str(format!(in alloc; "{comma}[{from},{to},0,0,0]")?.as_str())?;
+            }
+        }
+    }
+    line.push_str("],\"groups\":[[0,1,2,3,4,7]],\"threads\":8,\"version\":1}")?;
+    Ok(line)
+}
+
+#[test]
+fn a_setup_may_have_every_edge(rt: HostRuntime) -> Result<(), Fail> {
+    let line = every_edge(rt.alloc())?;
+    let setup = read_setup(rt.alloc(), line.as_bytes())?;
+    assert_eq!(rt; setup.edge_count(), 56);
+    let written = write_setup(rt.alloc(), &setup)?;
+    assert_eq!(rt; written.as_slice(), line.as_bytes());
+    Ok(())
+}
+
 #[test]
 fn the_first_fault_of_a_line(rt: HostRuntime) {
     let cases = [
@@ -41,6 +82,10 @@ fn the_first_fault_of_a_line(rt: HostRuntime) {
         ("{}", SetupFault::Shape(Field::Clusters)),
         ("{\"cluster\":[]}", SetupFault::Shape(Field::Whole)),
         (
+            "{\"clusters\":[[1,1000]],\"edges\":[],\"groups\":[[0,0,0,0,0,0]],\"threads\":8,\"name\":0,\"version\":1}",
+            SetupFault::Shape(Field::Whole),
+        ),
+        (
             "{\"clusters\":[],\"edges\":[[0,1]],\"groups\":0}",
             SetupFault::Shape(Field::Edges),
         ),
@@ -49,28 +94,72 @@ fn the_first_fault_of_a_line(rt: HostRuntime) {
             SetupFault::Shape(Field::Groups),
         ),
         (
+            "{\"clusters\":[[1,1000,1]],\"edges\":[],\"groups\":[[0,0,0,0,0,0]],\"threads\":8,\"version\":1}",
+            SetupFault::Shape(Field::Clusters),
+        ),
+        (
             "{\"clusters\":[[1,1000]],\"edges\":[],\"groups\":[[0,0,0,0,0,0]],\"threads\":8.0,\"version\":1}",
             SetupFault::Shape(Field::Threads),
         ),
         (
-            "{\"clusters\":[],\"edges\":[],\"groups\":[],\"threads\":8,\"times\":[]}",
-            SetupFault::Shape(Field::Times),
-        ),
-        (
-            "{\"clusters\":[],\"edges\":[],\"groups\":[],\"threads\":8,\"version\":2}",
-            SetupFault::Shape(Field::Times),
+            "{\"clusters\":[[1,1000]],\"edges\":[],\"groups\":[[0,0,0,0,0,0]],\"threads\":18446744073709551616,\"version\":1}",
+            SetupFault::Shape(Field::Threads),
         ),
         (
             "{\"clusters\":[],\"edges\":[],\"groups\":[],\"threads\":8,\"version\":-1}",
             SetupFault::Shape(Field::Version),
         ),
         (
+            "{\"clusters\":[[1,1000]],\"edges\":[],\"groups\":[[0,0,0,0,0,0]],\"threads\":8,\"version\":2.0}",
+            SetupFault::Shape(Field::Version),
+        ),
+        (
+            "{\"clusters\":[[1,1000]],\"edges\":[],\"groups\":[[0,0,0,0,0,0]],\"threads\":8,\"version\":2}",
+            SetupFault::Shape(Field::Times),
+        ),
+        (
+            "{\"clusters\":[[1,1000]],\"edges\":[],\"groups\":[[0,0,0,0,0,0]],\"threads\":8,\"times\":[[[0,0,37500,75000,150000,250000],[0,0,4000,2000,1000,0],[10000,10000,8000,6000,4000,2000]]],\"version\":1}",
+            SetupFault::Shape(Field::Times),
+        ),
+        (
+            "{\"clusters\":[[1,1000]],\"edges\":[],\"groups\":[[0,0,0,0,0,0]],\"threads\":8,\"times\":[[[0,0,37500,75000,150000,250000],[0,0,4000,2000,1000,0],[10000,10000,8000,6000,4000,2000]]],\"version\":3}",
+            SetupFault::Shape(Field::Times),
+        ),
+        (
+            "{\"clusters\":[[1,1000]],\"edges\":[],\"groups\":[[0,0,0,0,0,0]],\"threads\":8,\"times\":[[[0,0,37500,75000,150000,250000],[0,0,4000,2000,1000,0],[10000,10000,8000,6000,4000,2000]]]}",
+            SetupFault::Shape(Field::Times),
+        ),
+        (
+            "{\"clusters\":[[1,1000]],\"edges\":[],\"groups\":[[0,0,0,0,0,0]],\"threads\":8,\"times\":[[[0,0,37500,75000,150000,250000,0],[0,0,4000,2000,1000,0],[10000,10000,8000,6000,4000,2000]]],\"version\":2}",
+            SetupFault::Shape(Field::Times),
+        ),
+        (
+            "{\"clusters\":[[9,1000],[8,1000]],\"edges\":[],\"groups\":[[0,0,0,0,0,0]],\"threads\":8,\"version\":1}",
+            SetupFault::Range(Field::Clusters),
+        ),
+        (
+            "{\"clusters\":[[1,1000]],\"edges\":[[0,0,0,1,0]],\"groups\":[[0,0,0,0,0,0]],\"threads\":8,\"version\":1}",
+            SetupFault::Range(Field::Edges),
+        ),
+        (
             "{\"clusters\":[[1,1000]],\"edges\":[[0,0,0,1,0]],\"groups\":[],\"threads\":0,\"version\":3}",
             SetupFault::Range(Field::Edges),
         ),
         (
+            "{\"clusters\":[[1,1000]],\"edges\":[],\"groups\":[],\"threads\":8,\"version\":1}",
+            SetupFault::Range(Field::Groups),
+        ),
+        (
             "{\"clusters\":[[1,1000]],\"edges\":[],\"groups\":[[0,0,0,0,0,0]],\"threads\":0,\"version\":1}",
             SetupFault::Range(Field::Threads),
+        ),
+        (
+            "{\"clusters\":[[1,1000]],\"edges\":[],\"groups\":[[0,0,0,0,0,0]],\"threads\":18446744073709551615,\"version\":1}",
+            SetupFault::Range(Field::Threads),
+        ),
+        (
+            "{\"clusters\":[[1,1000]],\"edges\":[],\"groups\":[[0,0,0,0,0,0]],\"threads\":8,\"times\":[[[0,0,37500,75000,150000,250000],[0,0,4000,2000,1000,0],[10000,10000,8000,6000,4000,999]]],\"version\":2}",
+            SetupFault::Range(Field::Times),
         ),
         (
             "{\"clusters\":[[1,1000]],\"edges\":[],\"groups\":[[0,0,0,0,0,0]],\"threads\":8,\"times\":[],\"version\":2}",
@@ -83,8 +172,50 @@ fn the_first_fault_of_a_line(rt: HostRuntime) {
     ];
     for (line, fault) in cases {
         let read = read_setup(rt.alloc(), line.as_bytes());
-        assert_eq!(rt; read.err(), Some(SetupError::Fault(fault)));
+        assert_eq!(rt; read.err(), Some(SetupError::Fault(fault)), "{line}");
     }
-    let read = read_setup(rt.alloc(), b"\"\xff\"");
-    assert_eq!(rt; read.err(), Some(SetupError::Fault(SetupFault::NotJson)));
+}
+
+#[test]
+fn bytes_that_are_no_json(rt: HostRuntime) {
+    let cases: [&[u8]; 3] = [b"\"\xff\"", &[b'['; 200], b"{\"version\":1"];
+    for line in cases {
+        let read = read_setup(rt.alloc(), line);
+        assert_eq!(rt; read.err(), Some(SetupError::Fault(SetupFault::NotJson)));
+    }
+}
+
+#[test]
+fn faults_have_their_texts(rt: HostRuntime) -> Result<(), Fail> {
+    let cases = [
+        (SetupFault::Long, "long"),
+        (SetupFault::Unfinished, "unfinished"),
+        (SetupFault::NotJson, "not json"),
+        (SetupFault::Shape(Field::Whole), "shape of whole"),
+        (SetupFault::Shape(Field::Clusters), "shape of clusters"),
+        (SetupFault::Shape(Field::Edges), "shape of edges"),
+        (SetupFault::Shape(Field::Groups), "shape of groups"),
+        (SetupFault::Shape(Field::Threads), "shape of threads"),
+        (SetupFault::Shape(Field::Times), "shape of times"),
+        (SetupFault::Shape(Field::Version), "shape of version"),
+        (SetupFault::Range(Field::Whole), "range of whole"),
+        (SetupFault::Range(Field::Clusters), "range of clusters"),
+        (SetupFault::Range(Field::Edges), "range of edges"),
+        (SetupFault::Range(Field::Groups), "range of groups"),
+        (SetupFault::Range(Field::Threads), "range of threads"),
+        (SetupFault::Range(Field::Times), "range of times"),
+        (SetupFault::Range(Field::Version), "range of version"),
+    ];
+    for (fault, text) in cases {
+        assert_eq!(rt; fault.to_string(rt.alloc())?.as_str(), text);
+        assert_eq!(rt;
+            SetupError::Fault(fault).to_string(rt.alloc())?.as_str(),
+            text
+        );
+    }
+    assert_eq!(rt;
+        SetupError::Memory.to_string(rt.alloc())?.as_str(),
+        "out of memory"
+    );
+    Ok(())
 }

@@ -1,0 +1,20 @@
+//! Laws of the texts of setups.
+
+ghost use Rattle.setup_json.specs.Laws.{SetupLinesReadAgain, SetupsReadAgain, SetupsStandInLines};
+
+/// The canonical text of each setup is read as that setup.
+pub fn setups_read_again()
+    ensures { SetupsReadAgain }
+{}
+
+/// The canonical text of each setup, with a newline, is the first line of whatever bytes go on
+/// with it.
+pub fn setups_stand_in_lines()
+    ensures { SetupsStandInLines }
+{}
+
+/// As the first line of an input, the canonical text of each setup is within the limit and is read
+/// as that setup.
+pub fn setup_lines_read_again()
+    ensures { SetupLinesReadAgain }
+{}
