@@ -13,3 +13,4 @@ pub mod Cuts
 pub mod Joining
 pub mod Removing
 pub mod Rekeying
+pub mod Staying

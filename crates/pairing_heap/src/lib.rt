@@ -3,6 +3,7 @@
 
 mod heap;
 mod key;
+pub mod laws;
 mod meld;
 mod steps;
 
