@@ -14,3 +14,4 @@ pub mod Joining
 pub mod Removing
 pub mod Rekeying
 pub mod Staying
+pub mod Both

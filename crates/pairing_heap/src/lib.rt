@@ -6,6 +6,8 @@ mod key;
 pub mod laws;
 mod meld;
 mod steps;
+#[cfg(test)]
+mod tests;
 
 pub use heap::Heap;
 pub use key::{HeapKey, Keyed};
