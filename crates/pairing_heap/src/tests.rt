@@ -377,3 +377,52 @@ fn empty_in_turn<R: Abort, L: Ledger>(rt: &R, mut mixed: Mixed, steps: &mut Step
 fn heaps_against_a_sorted_list(rt: HostRuntime) {
     mixed_steps::<_, Brand>(&rt, rt.alloc(), Blank::new(1));
 }
+
+#[test]
+fn heaps_of_three_slots(rt: HostRuntime) {
+    three_slots::<_, Brand>(&rt, rt.alloc(), Blank::new(1));
+}
+
+// Three slots are in both heaps, and what leaves the left heap stays in the right one.
+fn three_slots<R: Abort, L: Ledger>(rt: &R, alloc: Global, blank: Blank)
+    requires name { blank.name ≡ L.name }
+    requires parts { blank.parts ≡ L.parts }
+    requires some { 0 < blank.parts }
+{
+    let mut steps = Steps::<L>::new(blank);
+    let mut arena = Arena::new(alloc).expect(rt, "room");
+    arena.reserve().expect(rt, "room");
+    arena.reserve().expect(rt, "room");
+    arena.reserve().expect(rt, "room");
+    let (mut left, mut right) = (Heap::new(), Heap::new());
+    left.stands_when_empty::<Sides>(&arena);
+    right.stands_when_empty::<Sides>(&arena);
+    let a = enter(
+        &mut arena,
+        &mut left,
+        &mut right,
+        Sides { left: 5, right: 1 },
+        &mut steps,
+    );
+    let b = enter(
+        &mut arena,
+        &mut left,
+        &mut right,
+        Sides { left: 3, right: 2 },
+        &mut steps,
+    );
+    let c = enter(
+        &mut arena,
+        &mut left,
+        &mut right,
+        Sides { left: 8, right: 3 },
+        &mut steps,
+    );
+    assert_eq!(rt; left.peek(), Some(b));
+    left.remove(&mut arena, c, &mut steps);
+    assert_eq!(rt; left.pop(&mut arena, &mut steps), Some(b));
+    assert_eq!(rt; right.peek(), Some(a));
+    assert_eq!(rt; left.pop(&mut arena, &mut steps), Some(a));
+    assert_eq!(rt; left.pop(&mut arena, &mut steps), None);
+    assert!(rt; left.is_empty());
+}
