@@ -1,7 +1,7 @@
 -- What the map of an arena becomes under each of its steps.
-use Rattle.std.proofs.Common.{◌≡◌, ◌≢◌, ℕ, zero, suc, ◌<◌, List, map, set, Option, Some, None, is_some, IsSome, refl, sym, ap, ◌∙◌, inl, inr, arith}
-use Rattle.std.proofs.lemmas.Bool.{cases_eq}
-use Rattle.std.proofs.lemmas.List.{map-set}
+use Rattle.std.proofs.Common.{◌≡◌, ◌≢◌, ℕ, zero, suc, ◌<◌, List, length, map, set, Option, Some, None, is_some, IsSome, refl, sym, ap, ◌∙◌, inl, inr, arith}
+use Rattle.std.proofs.lemmas.Bool.{cases_eq, cases_lt}
+use Rattle.std.proofs.lemmas.List.{get_or-set_other, get_or-set_same, get_or_past, map-set}
 use Rattle.slab.specs.Slab.{Slab, get, with_value, Updates}
 use Rattle.link_arena.specs.declared.arena.Cell.{Cell}
 use Rattle.link_arena.specs.declared.arena.Links.{Links}
@@ -177,4 +177,43 @@ module _ {V : Type 0} where
         changed = ap (get t) (sym same) ∙ updates.changed;
         others = λ other differs.
             updates.others other (λ equal. differs (equal ∙ same)) ∙ ap (λ x. get x other) kept;
+      }
+
+  within_from_live : (a : Arena V) (slot : ℕ) → IsLive a slot → slot < length a.nodes
+  within_from_live a slot live =
+      elim (cases_lt slot (length a.nodes)) [
+        | inl within ↦ within
+        | inr past ↦ let none = ap (λ o. is_some (value_of o)) (get_or_past a.nodes slot None past) in absurd (cc)
+      ]
+
+  node_at-with_value : (a : Arena V) (slot : ℕ) (w : V) → IsLive a slot → node_at (arena_with_value a slot w) slot ≡ node_with_value w (node_at a slot)
+  node_at-with_value a slot w live = get_or-set_same a.nodes slot (node_with_value w (node_at a slot)) None (within_from_live a slot live)
+
+  node_at-beside : (a : Arena V) (slot other : ℕ) (w : V) → other ≢ slot → node_at (arena_with_value a slot w) other ≡ node_at a other
+  node_at-beside a slot other w differs = get_or-set_other a.nodes slot other (node_with_value w (node_at a slot)) None differs
+
+  value_of-with_value : (w : V) (o : Option (Node V)) → IsSome (value_of o) → value_of (node_with_value w o) ≡ Some w
+  value_of-with_value w None live = cc
+  value_of-with_value w (Some node) live = refl
+
+  links_in-with_value : (k : ℕ) (w : V) (o : Option (Node V)) → links_in k (node_with_value w o) ≡ links_in k o
+  links_in-with_value k w None = refl
+  links_in-with_value zero w (Some node) = refl
+  links_in-with_value (suc zero) w (Some node) = refl
+  links_in-with_value (suc (suc _)) w (Some node) = refl
+
+  -- a write of a value to a live slot changes that value alone
+  pub Revalues-with_value : (a : Arena V) (slot : ℕ) (w : V) → IsLive a slot → Revalues a (arena_with_value a slot w) slot w
+  Revalues-with_value a slot w live =
+      record {
+        here = ap value_of (node_at-with_value a slot w live) ∙ value_of-with_value w (node_at a slot) live;
+        elsewhere = λ other differs. ap value_of (node_at-beside a slot other w differs);
+        links = λ k other. elim (cases_eq other slot) [
+          | inl same ↦
+              ap (λ o. links_at (arena_with_value a slot w) k o) same
+              ∙ ap (links_in k) (node_at-with_value a slot w live)
+              ∙ links_in-with_value k w (node_at a slot)
+              ∙ sym (ap (λ o. links_at a k o) same)
+          | inr differs ↦ ap (links_in k) (node_at-beside a slot other w differs)
+        ];
       }

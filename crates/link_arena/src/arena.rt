@@ -70,7 +70,7 @@ impl<V> Cell<V> {
 }
 
 impl<V> Arena<V> {
-    ghost use Rattle.link_arena.specs.Arena.{value_at, links_at, unlinked, IsLive, SameMap, Inserts, Removes, Relinks, Revalues};
+    ghost use Rattle.link_arena.specs.Arena.{value_at, links_at, unlinked, IsLive, SameMap, Inserts, Removes, Relinks, Revalues, with_value};
     ghost use Rattle.link_arena.specs.Lends.{LendsValue};
     ghost use Rattle.std.specs.Borrow.{sem};
 
@@ -152,11 +152,12 @@ impl<V> Arena<V> {
         }
     }
 
-    /// The value in a slot, for writing. Links stay.
+    /// The value in a slot, for writing. Links stay, and so does the spare room.
     pub fn get_mut(&mut self, slot: u32) -> &mut V
         requires { IsLive self.old slot }
         ensures* writes_back { sem 𝓛 (LendsValue V.row self.entry slot result) }
         ensures value { value_at self.old slot ≡ Some result.now }
+        ensures revalues { (v : V) → Revalues self.old (with_value self.old slot v) slot v }
     {
         let cell = &mut self.cells[slot as usize];
         cell.value.as_mut().unwrap()

@@ -13,3 +13,5 @@ pub mod Cuts
 pub mod Joining
 pub mod Removing
 pub mod Rekeying
+pub mod Staying
+pub mod Both

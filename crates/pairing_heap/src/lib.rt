@@ -3,8 +3,11 @@
 
 mod heap;
 mod key;
+pub mod laws;
 mod meld;
 mod steps;
+#[cfg(test)]
+mod tests;
 
 pub use heap::Heap;
 pub use key::{HeapKey, Keyed};

@@ -5,10 +5,9 @@ use Rattle.std.proofs.lemmas.List.Sums.{sum_by-cons}
 use Rattle.link_arena.specs.Arena.{Arena, IsLive, value_at}
 use Rattle.pairing_heap.specs.Heap.{AddsPair, OthersStay, SameElements, TakesPair}
 use Rattle.pairing_heap.proofs.Adding.{key_from_live}
-use Rattle.pairing_heap.proofs.Rekeying.{live_held}
 use Rattle.pairing_heap.proofs.Standing.{count_by-more}
 use Rattle.thread_queue.specs.Item.{key_of_item, key_precedes}
-use Rattle.thread_queue.specs.Queue.{HasSlot, OtherQueuesStay, Pushes, Queue, Removes, StandsIn, members}
+use Rattle.thread_queue.specs.Queue.{OtherQueuesStay, Pushes, Queue, Removes, StandsIn, members}
 use Rattle.thread_queue.specs.declared.item.Item.{Item}
 
 count_by-all : {X : Type 0} → (xs : List X) → count_by (λ _. true) xs ≡ length xs
@@ -25,10 +24,6 @@ queues_stay old new times others other stands apart =
     let still = others other.root stands.heap apart in
     (record { heap = still.0; counted = stands.counted ∙ ap length (sym still.1) }, still.1)
 
-pub live_in : (arena : Arena Item) (queue : Queue) → StandsIn arena queue → (slot : ℕ) → HasSlot arena queue slot → IsLive arena slot
-live_in arena queue stands slot held =
-    live_held 0 key_of_item key_precedes arena queue.root slot stands.heap held
-
 pub pushes : (old new : Arena Item) (queue later : Queue) (slot : ℕ) → StandsIn old queue → IsLive old slot → AddsPair 0 key_of_item key_precedes old new queue.root later.root slot → later.count ≡ queue.count + 1 → Pushes old new queue later slot
 pushes old new queue later slot stands live adds count =
     let keyed = key_from_live key_of_item (value_at old slot) live in
@@ -42,9 +37,9 @@ pushes old new queue later slot stands live adds count =
       queues = queues_stay old new _ adds.others;
     }
 
-pub removes : (old new : Arena Item) (queue later : Queue) (slot : ℕ) → StandsIn old queue → TakesPair 0 key_of_item key_precedes old new queue.root later.root slot → later.count ≡ queue.count - 1 → Removes old new queue later slot
-removes old new queue later slot stands takes count =
-    let keyed = key_from_live key_of_item (value_at old slot) (live_in old queue stands slot takes.held) in
+pub removes : (old new : Arena Item) (queue later : Queue) (slot : ℕ) → StandsIn old queue → IsLive old slot → TakesPair 0 key_of_item key_precedes old new queue.root later.root slot → later.count ≡ queue.count - 1 → Removes old new queue later slot
+removes old new queue later slot stands live takes count =
+    let keyed = key_from_live key_of_item (value_at old slot) live in
     let pairs = takes.pairs keyed.0 keyed.1 in
     let shorter = length-same (members old queue) ((keyed.0, slot) ∷ members new later) pairs in
     record {

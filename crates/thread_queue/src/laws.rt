@@ -2,25 +2,36 @@
 
 ghost use Rattle.thread_queue.specs.Laws.{SlotsAreLive, StaysWhereSlotsStay, StaysWhereInserted, StaysWhereRemoved, FirstIsChosen};
 
+use crate::Item;
+use pairing_heap::laws as heaps;
+
 /// Each slot of a queue holds an item.
 pub fn slots_are_live()
     ensures { SlotsAreLive }
-{}
+{
+    heaps::held_are_live::<Item, 0>();
+}
 
 /// A queue stays where its slots keep their keys and their links.
 pub fn stays_where_slots_stay()
     ensures { StaysWhereSlotsStay }
-{}
+{
+    heaps::stays_where_slots_stay::<Item, 0>();
+}
 
 /// A queue stays where an item comes into the arena, and it has not the item's slot.
 pub fn stays_where_inserted()
     ensures { StaysWhereInserted }
-{}
+{
+    heaps::stays_where_inserted::<Item, 0>();
+}
 
 /// A queue that has not the slot stays where the slot's item leaves the arena.
 pub fn stays_where_removed()
     ensures { StaysWhereRemoved }
-{}
+{
+    heaps::stays_where_removed::<Item, 0>();
+}
 
 /// The first entry of a queue is, among all its entries, the one that no other precedes.
 pub fn first_is_chosen()

@@ -5,6 +5,7 @@ ghost use Rattle.thread_queue.specs.declared.item.Item.{Item as Stored};
 ghost use Rattle.thread_queue.specs.Queue.{StandsIn, HasSlot, LacksSlot, IsFirst, Pushes, Removes, Settles, members};
 
 use crate::Item;
+use crate::laws::slots_are_live;
 use link_arena::Arena;
 use pairing_heap::{Heap, Steps};
 use std::marker::Model;
@@ -80,6 +81,7 @@ impl ThreadQueue {
         ensures removes { Removes arena.old arena.new self.old self.new slot }
         ensures ticks { steps.old ≤ steps.new }
     {
+        slots_are_live();
         self.heap.remove(arena, slot, steps);
         self.count -= 1;
     }
@@ -103,6 +105,7 @@ impl ThreadQueue {
         ensures settles { Settles arena.old arena.new self.old self.new slot usage seen pri }
         ensures ticks { steps.old ≤ steps.new }
     {
+        slots_are_live();
         self.heap.remove(arena, slot, steps);
         settle_item(arena, slot, usage, seen, pri);
         self.heap.push(arena, slot, steps);

@@ -1,6 +1,7 @@
 ghost use Rattle.std.specs.Prelude.{◌≡◌, ◌+◌, ◌<◌};
 ghost use Rattle.thread_queue.specs.Queue.{StandsIn};
 
+use crate::laws::{stays_where_inserted, stays_where_slots_stay};
 use crate::{Item, ThreadQueue};
 use link_arena::Arena;
 use pairing_heap::Steps;
@@ -33,6 +34,7 @@ fn enter<L: Ledger>(
     ensures stands { StandsIn arena.new queue.new }
     ensures spare { arena.new.spare + 1 ≡ arena.old.spare }
 {
+    stays_where_inserted();
     let slot = arena.insert_reserved(item);
     queue.push(arena, slot, steps);
 }
@@ -102,6 +104,7 @@ impl Bench {
     fn reserve<R: Abort>(&mut self, rt: &R)
         ensures { 0 < self.new }
     {
+        stays_where_slots_stay();
         self.arena.reserve().expect(rt, "room");
     }
 

@@ -3,7 +3,7 @@ use Rattle.std.proofs.Common.{refl, sym, ap, ◌∙◌, vec_len}
 use Rattle.std.specs.Option.{option_copied_mut}
 use Rattle.link_arena.specs.Arena.{value_at, with_value}
 use Rattle.link_arena.proofs.SoundLemmas.{IsSound-written}
-use Rattle.link_arena.proofs.MapLemmas.{value_from_live, value_at-found, seen-with_value}
+use Rattle.link_arena.proofs.MapLemmas.{value_from_live, value_at-found, seen-with_value, Revalues-with_value}
 use Rattle.link_arena.proofs.arena.Arena.get_mut.Goals as goal
 
 pub invariant_of-self-lent : goal.invariant_of-self-lent
@@ -23,5 +23,6 @@ returns g c =
       record {
         writes_back = tt;
         value = ap (λ a. value_at a c.args.slot) (sym c.self.view_is) ∙ value_at-found cells (vec_len c.self.inside.free) _ _ found ∙ value;
+        revalues = λ w. Revalues-with_value c.args.self.now c.args.slot w c.requires;
       },
     )

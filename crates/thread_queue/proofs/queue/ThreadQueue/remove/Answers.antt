@@ -7,4 +7,5 @@ use Rattle.thread_queue.proofs.queue.ThreadQueue.remove.Goals as goal
 pub returns-clause-removes : goal.returns-clause-removes
 returns-clause-removes g c =
     let stands = subst (λ (q : Queue). StandsIn c.args.arena.now q) (sym c.self.view_is) c.requires.stands in
-    rw (← c.self.view_is) (removes c.args.arena.now c.remove.new.arena _ _ c.args.slot stands c.remove.ensures.takes refl)
+    let live = c.slots_are_live.ensures c.args.arena.now c.args.self.now c.requires.stands c.args.slot c.requires.held in
+    rw (← c.self.view_is) (removes c.args.arena.now c.remove.new.arena _ _ c.args.slot stands live c.remove.ensures.takes refl)

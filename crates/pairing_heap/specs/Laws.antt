@@ -1,0 +1,64 @@
+-- What stays of a heap where the arena changes, and how often slots stand in it where a pair comes or goes.
+use Rattle.std.specs.Prelude.{◌≡◌, ◌≢◌, ℕ, ◌+◌, ◌≤◌, Bool, Option, ◌==◌, if◌then◌else◌}
+use Rattle.link_arena.specs.Arena.{Arena, IsLive, SameMap, Inserts, Removes, Revalues}
+use Rattle.pairing_heap.specs.Heap.{times_of, LinksOnly, pairs_at, Stands, Holds, Lacks, SameSlots, AddsPair, TakesPair, RekeysPair}
+
+module _ {V X : Type 0} (k : ℕ) (key_of : V → X) (precedes : X → X → Bool) where
+  -- each slot of a heap holds a value
+  abbrev pub HeldAreLive : Type 0
+  HeldAreLive = (a : Arena V) (heap : Option ℕ) (slot : ℕ) → Stands k key_of precedes a heap → Holds k key_of a heap slot → IsLive a slot
+
+  -- no slot stands twice in a heap
+  abbrev pub SlotsStandOnce : Type 0
+  SlotsStandOnce = (a : Arena V) (heap : Option ℕ) (slot : ℕ) → Stands k key_of precedes a heap → times_of (pairs_at k key_of a heap) slot ≤ 1
+
+  -- the heap stands in the new arena too, with the same pairs
+  pub record StaysIn (old new : Arena V) (heap : Option ℕ) : Type 0 where
+    pub stands : Stands k key_of precedes new heap
+    pub same : pairs_at k key_of new heap ≡ pairs_at k key_of old heap
+
+  -- a heap stays where its slots keep their keys and their links
+  abbrev pub StaysWhereSlotsStay : Type 0
+  StaysWhereSlotsStay = (old new : Arena V) (heap : Option ℕ) → Stands k key_of precedes old heap → SameSlots k key_of old new heap → StaysIn old new heap
+
+  -- a heap stays where the arena gets room
+  abbrev pub StaysWhereReserved : Type 0
+  StaysWhereReserved = (old new : Arena V) → SameMap old new → (heap : Option ℕ) → Stands k key_of precedes old heap → StaysIn old new heap
+
+  -- a heap stays where a value comes into the arena, and has not its slot
+  pub record StaysWithout (old new : Arena V) (heap : Option ℕ) (slot : ℕ) : Type 0 where
+    pub stays : StaysIn old new heap
+    pub lacks : Lacks k key_of new heap slot
+
+  abbrev pub StaysWhereInserted : Type 0
+  StaysWhereInserted = (old new : Arena V) (slot : ℕ) (value : V) → Inserts old new slot value → (heap : Option ℕ) → Stands k key_of precedes old heap → StaysWithout old new heap slot
+
+  -- a heap that has not the slot stays where the slot's value leaves the arena
+  abbrev pub StaysWhereRemoved : Type 0
+  StaysWhereRemoved = (old new : Arena V) (slot : ℕ) → Removes old new slot → (heap : Option ℕ) → Stands k key_of precedes old heap → Lacks k key_of old heap slot → StaysIn old new heap
+
+  -- a heap that has not the slot stays where the slot gets another value
+  abbrev pub StaysWhereRevalued : Type 0
+  StaysWhereRevalued = (old new : Arena V) (slot : ℕ) (value : V) → Revalues old new slot value → (heap : Option ℕ) → Stands k key_of precedes old heap → Lacks k key_of old heap slot → StaysIn old new heap
+
+  -- a heap stays where only links of the other set change
+  abbrev pub StaysWhereOtherSetChanges : Type 0
+  StaysWhereOtherSetChanges = (old new : Arena V) (set : ℕ) (times : ℕ → ℕ) → k ≢ set → LinksOnly set old new times → (heap : Option ℕ) → Stands k key_of precedes old heap → StaysIn old new heap
+
+  -- where a pair comes in, its slot stands once more in the heap, and each other slot as often
+  abbrev pub AddsOneSlot : Type 0
+  AddsOneSlot =
+      (old new : Arena V) (heap later : Option ℕ) (slot : ℕ) → IsLive old slot → AddsPair k key_of precedes old new heap later slot → (other : ℕ)
+      → times_of (pairs_at k key_of new later) other ≡ (if slot == other then 1 else 0) + times_of (pairs_at k key_of old heap) other
+
+  -- where a pair goes out, its slot stands in the heap no more, and each other slot as often
+  abbrev pub TakesOneSlot : Type 0
+  TakesOneSlot =
+      (old new : Arena V) (heap later : Option ℕ) (slot : ℕ) → Stands k key_of precedes old heap → TakesPair k key_of precedes old new heap later slot → (other : ℕ)
+      → times_of (pairs_at k key_of old heap) other ≡ (if slot == other then 1 else 0) + times_of (pairs_at k key_of new later) other
+
+  -- where a slot gets another value, each slot stands in the heap as often
+  abbrev pub RekeysNoSlot : Type 0
+  RekeysNoSlot =
+      (old new : Arena V) (heap later : Option ℕ) (slot : ℕ) (value : V) → IsLive old slot → RekeysPair k key_of precedes old new heap later slot value → (other : ℕ)
+      → times_of (pairs_at k key_of new later) other ≡ times_of (pairs_at k key_of old heap) other
