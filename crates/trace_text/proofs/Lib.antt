@@ -1,5 +1,6 @@
 pub mod Again
 pub mod Naming
+pub mod NoWord
 pub mod PiecesAgain
 pub mod Readings
 pub mod Rejoined
