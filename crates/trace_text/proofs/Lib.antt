@@ -1,9 +1,17 @@
 pub mod Again
+pub mod AnswersBack
+pub mod LinesBack
 pub mod Naming
 pub mod PiecesAgain
+pub mod ProgramsAgain
+pub mod ProgramsBack
+pub mod ReadBack
 pub mod Readings
 pub mod Rejoined
+pub mod RunLines
 pub mod Spans
 pub mod Splitting
+pub mod StepsBack
 pub mod Texts
 pub mod WholeLines
+pub mod NoWord

@@ -9,7 +9,7 @@ use Rattle.sched_base.specs.declared.Bucket.{Bucket}
 use Rattle.sched_base.specs.declared.Bucket.TheVariants.{Bg, Df, Fg, Ini, Ui, Ut}
 use Rattle.flat_policy.specs.Texts.Pieces.{bound_piece, bound_within, bucket_piece, bucket_words, end_piece, end_words, is_digit, is_numeral, number_after, number_within, same_text, word_among}
 
-own : IsNumeralModel (λ ds. list_all is_digit ds ≡ true) (number_after 0)
+pub own : IsNumeralModel (λ ds. list_all is_digit ds ≡ true) (number_after 0)
 own = numerals_by_fold _ (search rules) number_after (search rules)
 
 -- ---- a piece has no space

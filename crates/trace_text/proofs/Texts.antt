@@ -50,13 +50,13 @@ not_queued_text places.Nowhere = refl
 
 -- ---- lengths
 
-small : (n : ℕ) → n ≤ 127 → length (decimal n) ≤ 3
+pub small : (n : ℕ) → n ≤ 127 → length (decimal n) ≤ 3
 small n le = length-decimal-le 3 n (omega arith) (omega arith) (omega arith)
 
-wide : (n : ℕ) → n < 2 ^ 32 → length (decimal n) ≤ 10
+pub wide : (n : ℕ) → n < 2 ^ 32 → length (decimal n) ≤ 10
 wide n lt = length-decimal-le 10 n (omega arith) (omega arith) (omega arith)
 
-bucket_short : (b : Bucket) → length (bucket_piece b) ≤ 2
+pub bucket_short : (b : Bucket) → length (bucket_piece b) ≤ 2
 bucket_short Ui = omega arith
 bucket_short Fg = omega arith
 bucket_short Ini = omega arith
@@ -64,7 +64,7 @@ bucket_short Df = omega arith
 bucket_short Ut = omega arith
 bucket_short Bg = omega arith
 
-bound_short : (o : Option ℕ) → IfSome o (λ c. c ≤ 15) → length (bound_piece o) ≤ 3
+pub bound_short : (o : Option ℕ) → IfSome o (λ c. c ≤ 15) → length (bound_piece o) ≤ 3
 bound_short None fits = omega arith
 bound_short (Some c) fits = small c (omega arith)
 

@@ -15,7 +15,7 @@ use Rattle.flat_policy.specs.Texts.Steps.{act_pieces, step_at, step_pieces, step
 use Rattle.trace_text.proofs.Again.{act_plain, answer_again, answer_plain, step_again}
 use Rattle.trace_text.proofs.PiecesAgain.{decimal_plain}
 use Rattle.trace_text.proofs.Rejoined.{AllPlain, AllPlain-append, pieces_spaced, spaced-append}
-use Rattle.trace_text.proofs.Texts.{step_short}
+use Rattle.trace_text.proofs.Texts.{small, step_short}
 use Rattle.trace_text.specs.Laws.{AnswersReadAgain, StepsReadAgain, answered_line}
 use Rattle.trace_text.specs.Writing.{AnswerFits, PlaceFits, StepFits}
 use Rattle.sched_base.specs.declared.Answer.TheVariants as answers
@@ -67,10 +67,10 @@ behind_equals answers.OwnCluster = refl
 behind_equals answers.NotAllowed = refl
 behind_equals (answers.LookFirst c) = refl
 
-abbrev answered_pieces : Step → Answer → List (List ℕ)
+abbrev pub answered_pieces : Step → Answer → List (List ℕ)
 answered_pieces s a = step_pieces s ++ codes "=" ∷ answer_pieces a
 
-answered_spaced : (s : Step) (a : Answer) → answered_line s a ≡ spaced (answered_pieces s a)
+pub answered_spaced : (s : Step) (a : Answer) → answered_line s a ≡ spaced (answered_pieces s a)
 answered_spaced s a =
     append_assoc (step_text s) (codes " = ") (answer_text a)
     ∙ ap (λ (rest : List ℕ). step_text s ++ 32 ∷ rest) (sym (behind_equals a))
@@ -86,11 +86,8 @@ unfolding given_of
 answered_given s a fits ok =
     ap given_of (step_again s (codes "=" ∷ answer_pieces a) fits) ∙ rw (answer_again a ok) refl
 
-small : (n : ℕ) → n ≤ 127 → length (decimal n) ≤ 3
-small n le = length-decimal-le 3 n (omega arith) (omega arith) (omega arith)
-
-wide : (n : ℕ) → n < 2 ^ 64 → length (decimal n) ≤ 20
-wide n lt = length-decimal-le 20 n (omega arith) (omega arith) lt
+widest : (n : ℕ) → n < 2 ^ 64 → length (decimal n) ≤ 20
+widest n lt = length-decimal-le 20 n (omega arith) (omega arith) lt
 
 placed_short : (front : List ℕ) (p : Place) → PlaceFits p → length (spaced (codes "no" ∷ front ∷ place_pieces p)) ≤ 14 + length front
 placed_short front (places.Queue c) fits = simp length-append (omega (arith, small c (omega arith)))
@@ -102,14 +99,14 @@ placed_short front places.Nowhere fits = simp length-append (omega arith)
 answer_short : (a : Answer) → AnswerFits a → length (answer_text a) ≤ 30
 answer_short answers.Yes fits = omega arith
 answer_short (answers.Pri p) fits = omega (arith, small p fits)
-answer_short (answers.Got name) fits = omega (arith, wide name (omega arith))
+answer_short (answers.Got name) fits = omega (arith, widest name (omega arith))
 answer_short answers.Empty fits = omega arith
 answer_short answers.Off fits = omega arith
-answer_short (answers.Load l) fits = omega (arith, wide l (omega arith))
+answer_short (answers.Load l) fits = omega (arith, widest l (omega arith))
 answer_short (answers.To c) fits = omega (arith, small c (omega arith))
-answer_short (answers.New n) fits = omega (arith, wide n (omega arith))
-answer_short (answers.Left n) fits = omega (arith, wide n (omega arith))
-answer_short (answers.Work w) fits = omega (arith, wide w fits)
+answer_short (answers.New n) fits = omega (arith, widest n (omega arith))
+answer_short (answers.Left n) fits = omega (arith, widest n (omega arith))
+answer_short (answers.Work w) fits = omega (arith, widest w fits)
 answer_short answers.HandFull fits = omega arith
 answer_short answers.HandEmpty fits = omega arith
 answer_short answers.NameUsed fits = omega arith

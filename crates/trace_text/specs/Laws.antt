@@ -1,11 +1,14 @@
--- What is written is read again.
-use Rattle.std.specs.Prelude.{List, None, Ok, Some, codes, ℕ, ◌++◌, ◌≡◌}
+-- What is written is read again, and what is read is what is written.
+use Rattle.std.specs.Prelude.{List, None, Ok, Option, Some, codes, ℕ, ◌++◌, ◌≡◌, ◌↔◌}
 use Rattle.sched_base.specs.declared.Answer.{Answer}
 use Rattle.sched_base.specs.declared.Step.{Step}
+use Rattle.flat_policy.specs.declared.texts.Given.{Given}
 use Rattle.flat_policy.specs.Texts.Answers.{answer_text}
-use Rattle.flat_policy.specs.Texts.Lines.{answered_text, newline, read_step_line}
+use Rattle.flat_policy.specs.Texts.Lines.{RunSays, answered_text, newline, program_text, read_run_line, read_step_line}
 use Rattle.flat_policy.specs.Texts.Steps.{step_text}
-use Rattle.trace_text.specs.Writing.{AnswerFits, StepFits}
+use Rattle.flat_policy.specs.Worker.{Program}
+use Rattle.trace_text.specs.Runs.{ProgramFits, SaysFits, read_program_line, says_text}
+use Rattle.trace_text.specs.Writing.{AnswerFits, GivenFits, StepFits}
 
 -- the text of a step is read as that step without an answer
 abbrev pub StepsReadAgain : Type 0
@@ -20,3 +23,29 @@ abbrev pub AnswersReadAgain : Type 0
 AnswersReadAgain =
     (s : Step) (a : Answer) → StepFits s → AnswerFits a → (answered_text s a ≡ answered_line s a ++ newline)
     × (read_step_line (answered_line s a) ≡ Ok (record { step = s; answer = Some a }))
+
+-- the line of a step, alone or with its answer
+abbrev pub given_line : Step → Option Answer → List ℕ
+given_line s None = step_text s
+given_line s (Some a) = answered_line s a
+
+-- what is read may be written
+abbrev pub ReadLinesFit : Type 0
+ReadLinesFit = (line : List ℕ) (g : Given) → read_step_line line ≡ Ok g → GivenFits g
+
+-- each value has one text: a line is the text of what it is read as
+abbrev pub ReadLinesAreTexts : Type 0
+ReadLinesAreTexts = (line : List ℕ) (g : Given) → read_step_line line ≡ Ok g → line ≡ given_line g.step g.answer
+
+-- so a line is read as a value exactly where that fits and the line is its text
+abbrev pub LinesAreExact : Type 0
+LinesAreExact =
+    (line : List ℕ) (g : Given) → (read_step_line line ≡ Ok g) ↔ (GivenFits g × (line ≡ given_line g.step g.answer))
+
+-- so with the lines of a run, and with its thread lines alone
+abbrev pub RunLinesAreExact : Type 0
+RunLinesAreExact = (line : List ℕ) (r : RunSays) → (read_run_line line ≡ Ok r) ↔ (SaysFits r × (line ≡ says_text r))
+
+abbrev pub ProgramLinesAreExact : Type 0
+ProgramLinesAreExact =
+    (line : List ℕ) (p : Program) → (read_program_line line ≡ Ok p) ↔ (ProgramFits p × (line ≡ program_text p))

@@ -1,10 +1,10 @@
 -- What a line of a run says, as it is kept.
-use Rattle.std.specs.Prelude.{List, Result, [], codes, drop, replicate, take, ℕ, ⊤, ◌-◌, ◌≡◌, ◌∷◌}
+use Rattle.std.specs.Prelude.{All, IfSome, List, Result, [], codes, drop, length, replicate, take, ℕ, ⊤, ◌%◌, ◌-◌, ◌<◌, ◌^◌, ◌≡◌, ◌≤◌, ◌∷◌}
 use Rattle.flat_policy.specs.declared.texts.LineFault.{LineFault}
 use Rattle.flat_policy.specs.declared.texts.Power.{Power}
 use Rattle.flat_policy.specs.declared.texts.ProgramLine.{ProgramLine}
 use Rattle.flat_policy.specs.declared.texts.RunLine.{RunLine}
-use Rattle.flat_policy.specs.Texts.Lines.{RunSays, power_line, program_at, program_line, within_limit}
+use Rattle.flat_policy.specs.Texts.Lines.{RunSays, power_line, power_text, program_at, program_line, program_text, within_limit}
 use Rattle.flat_policy.specs.Texts.Pieces.{Worded, and_then, next_piece, pieces, word_among, worded}
 use Rattle.flat_policy.specs.Worker.{PowerAt, Program}
 use Rattle.flat_policy.specs.declared.texts.RunLine.TheVariants as run_lines
@@ -39,3 +39,31 @@ read_thread_pieces ps = and_then (next_piece (word_among thread_word) ps) (λ w.
 
 abbrev pub read_program_line : List ℕ → Result Program LineFault
 read_program_line line = within_limit line (read_thread_pieces (pieces line))
+
+-- a span is 1 to 10,000,000
+abbrev pub SpanFits : ℕ → Type 0
+SpanFits n = (1 ≤ n) × (n ≤ 10000000)
+
+-- the numbers of a program are in the ranges of lines, and its spans are 1 to 15 and an odd number of them
+pub record ProgramFits (p : Program) : Type 0 where
+  pub name : p.name < 2 ^ 32
+  pub group : p.group ≤ 63
+  pub base : p.base ≤ 127
+  pub bound : IfSome p.bound (λ c. c ≤ 15)
+  pub spans : All SpanFits p.spans
+  pub odd : length p.spans % 2 ≡ 1
+  pub few : length p.spans ≤ 15
+
+-- the numbers of a power
+pub record PowerFits (p : PowerAt) : Type 0 where
+  pub cluster : p.cluster ≤ 15
+  pub turn : p.turn ≤ 4999
+
+-- what a line of a run says fits, and its text
+abbrev pub SaysFits : RunSays → Type 0
+SaysFits (program_line p) = ProgramFits p
+SaysFits (power_line p) = PowerFits p
+
+abbrev pub says_text : RunSays → List ℕ
+says_text (program_line p) = program_text p
+says_text (power_line p) = power_text p

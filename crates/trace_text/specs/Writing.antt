@@ -4,6 +4,7 @@ use Rattle.sched_base.specs.declared.Act.{Act}
 use Rattle.sched_base.specs.declared.Answer.{Answer}
 use Rattle.sched_base.specs.declared.Place.{Place}
 use Rattle.sched_base.specs.declared.Step.{Step}
+use Rattle.flat_policy.specs.declared.texts.Given.{Given}
 use Rattle.flat_policy.specs.Texts.Answers.{answer_text}
 use Rattle.flat_policy.specs.Texts.Lines.{newline}
 use Rattle.flat_policy.specs.Texts.Steps.{step_text}
@@ -64,6 +65,11 @@ AnswerFits (answers.NotQueued place) = PlaceFits place
 AnswerFits answers.OwnCluster = ⊤
 AnswerFits answers.NotAllowed = ⊤
 AnswerFits (answers.LookFirst c) = c ≤ 15
+
+-- the numbers of a step and of the answer that is given to it, if one
+pub record GivenFits (g : Given) : Type 0 where
+  pub step : StepFits g.step
+  pub answer : IfSome g.answer AnswerFits
 
 -- the text of one step
 pub record IsStepText (text : List ℕ) : Type 0 where

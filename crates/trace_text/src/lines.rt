@@ -1,9 +1,10 @@
 //! Lines of a trace, read.
 
-ghost use Rattle.std.specs.Prelude.{◌≡◌, ◌∷◌};
+ghost use Rattle.std.specs.Prelude.{◌≡◌, ◌∷◌, IfOk};
 ghost use Rattle.flat_policy.specs.Texts.Lines.{given_at, read_given, read_step_line};
 ghost use Rattle.flat_policy.specs.Texts.Pieces.{pieces};
 ghost use Rattle.trace_text.specs.Reading.{left};
+ghost use Rattle.trace_text.specs.Writing.{GivenFits};
 
 use crate::acts::step_at;
 use crate::answers::answer_at;
@@ -54,8 +55,11 @@ fn given_of(line: &[u8]) -> Result<Given, LineFault>
 /// piece that should be a numeral and is none, `Range` for a numeral out of its range, `Word` for a
 /// piece that is none of the words that may stand there, a piece too few or a piece too many. Never
 /// `Unfinished`. Whether a setup fits the step is not asked here.
+#[tactic(auto, using(crate::proofs::LinesBack::given_fits))]
 pub fn read_step(line: &[u8]) -> Result<Given, LineFault>
-    ensures { result ≡ read_step_line line.now }
+    ensures exact { result ≡ read_step_line line.now }
+    // So what was read may be written.
+    ensures fits { IfOk result GivenFits }
 {
     if line.len() > LONGEST {
         return Err(LineFault::Long);

@@ -15,6 +15,8 @@ ghost use Rattle.trace_text.specs.Reading.{Gives, left};
 ghost use Rattle.trace_text.specs.Runs.{
   HasNoMoreSpans,
   HasNoMoreSpansIn,
+  ProgramFits,
+  SaysFits,
   power_of,
   program_of,
   read_program_line,
@@ -158,9 +160,11 @@ fn thread_at(pieces: Pieces<'_>) -> Result<ProgramLine, LineFault>
 /// Errors: `Long` for more than 256 bytes, and else the first fault from the left, as
 /// [`read_step`](crate::read_step) names it. An even number of spans is a piece too few. Never
 /// `Unfinished`.
+#[tactic(auto, using(crate::proofs::RunLines::thread_fits))]
 pub fn read_program(line: &[u8]) -> Result<ProgramLine, LineFault>
     // What is read is the definition's program, with the first `count` spans.
     ensures exact { Gives program_of result (read_program_line line.now) }
+    ensures fits { IfOk result (λ p. ProgramFits (program_of p)) }
     ensures unused { IfOk result HasNoMoreSpans }
 {
     if line.len() > LONGEST {
@@ -172,8 +176,10 @@ pub fn read_program(line: &[u8]) -> Result<ProgramLine, LineFault>
 /// A line of a run, without its newline: a thread line, or an off or on line.
 ///
 /// Errors: as of [`read_program`].
+#[tactic(auto, using(crate::proofs::RunLines::run_fits))]
 pub fn read_run(line: &[u8]) -> Result<RunLine, LineFault>
     ensures exact { Gives run_says result (read_run_line line.now) }
+    ensures fits { IfOk result (λ r. SaysFits (run_says r)) }
     ensures unused { IfOk result HasNoMoreSpansIn }
 {
     if line.len() > LONGEST {

@@ -59,6 +59,7 @@ pub enum ActWord {
 }
 
 /// The name of a word of an act.
+#[tactic(auto, using(crate::proofs::NoWord::long_is_no_act, crate::proofs::NoWord::other_is_no_act))]
 pub fn act_word(word: &[u8]) -> Option<ActWord>
     ensures { result ≡ value_of_word act_names word.now }
 {
@@ -121,6 +122,7 @@ pub enum RefusalWord {
 }
 
 /// The name of a word of a refusal.
+#[tactic(auto, using(crate::proofs::NoWord::long_is_no_refusal, crate::proofs::NoWord::other_is_no_refusal))]
 pub fn refusal_word(word: &[u8]) -> Option<RefusalWord>
     ensures { result ≡ value_of_word refusal_names word.now }
 {
