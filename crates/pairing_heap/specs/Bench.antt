@@ -1,19 +1,13 @@
 -- What the tests keep. No public clause cites this module.
-use Rattle.std.specs.Prelude.{◌≡◌, ℕ, nat_lt, true, false, Option}
-use Rattle.std.proofs.Common.{arith, le-ltb, lt-ltb, ltb-false, ltb-true}
+use Rattle.std.specs.Prelude.{ℕ, nat_lt, Option}
 use Rattle.link_arena.specs.Arena.{Arena, IsLive}
 use Rattle.pairing_heap.specs.Heap.{Stands, Holds}
 use Rattle.pairing_heap.specs.Order.{IsStrictOrder}
-
-less_transitive : (a b c : ℕ) → nat_lt a b ≡ true → nat_lt b c ≡ true → nat_lt a c ≡ true
-less_transitive a b c ab bc = lt-ltb a c (omega (arith, ltb-true a b ab, ltb-true b c bc))
-
-less_total : (a b : ℕ) → nat_lt a b ≡ false → nat_lt b a ≡ false → a ≡ b
-less_total a b ab ba = omega (arith, ltb-false a b ab, ltb-false b a ba)
+use Rattle.pairing_heap.proofs.Numbers.{less_irreflexive, less_total, less_transitive}
 
 -- numbers are strictly ordered
 pub number_order : IsStrictOrder nat_lt
-number_order = record { irreflexive = λ a. le-ltb a a (omega arith); transitive = less_transitive; total = less_total }
+number_order = record { irreflexive = less_irreflexive; transitive = less_transitive; total = less_total }
 
 -- a heap of either set stands in the arena, and each slot that holds a value is in both
 pub record HoldBoth {V : Type 0} (left_of right_of : V → ℕ) (a : Arena V) (left right : Option ℕ) : Type 0 where
