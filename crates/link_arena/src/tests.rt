@@ -27,3 +27,21 @@ fn slots_values_and_links(rt: HostRuntime) -> Result<(), Fail> {
     assert_eq!(rt; arena.next_live(0), Some(b));
     Ok(())
 }
+
+// A value that may not be let go of.
+struct Mark(u32);
+
+// An arena of such values ends once each was taken out.
+#[test]
+fn ends_empty(rt: HostRuntime) -> Result<(), Fail> {
+    let mut arena = Arena::new(rt.alloc())?;
+    arena.reserve().expect(&rt, "room");
+    let slot = arena.insert_reserved(Mark(7));
+    let Mark(number) = arena.remove(slot);
+    assert_eq!(rt; number, 7);
+    match arena.next_live(0) {
+        None => arena.destroy_empty(),
+        Some(_) => panic!(rt; "a slot is live"),
+    }
+    Ok(())
+}
