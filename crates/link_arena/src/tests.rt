@@ -1,4 +1,5 @@
 use crate::{Arena, Links};
+use std::rc::Rc;
 use std::test::Fail;
 
 // Two values go in, links are written, values are changed, and an emptied slot is passed over and given out again.
@@ -43,5 +44,18 @@ fn ends_empty(rt: HostRuntime) -> Result<(), Fail> {
         None => arena.destroy_empty(),
         Some(_) => panic!(rt; "a slot is live"),
     }
+    Ok(())
+}
+
+// An arena of values that may be let go of drops those that it still has.
+#[test]
+fn drops_its_values(rt: HostRuntime) -> Result<(), Fail> {
+    let shared = Rc::new(rt.alloc(), 5)?;
+    let mut arena = Arena::new(rt.alloc())?;
+    arena.reserve()?;
+    arena.insert_reserved(shared.clone()?);
+    assert_eq!(rt; Rc::strong_count(&shared), 2);
+    drop(arena);
+    assert_eq!(rt; Rc::strong_count(&shared), 1);
     Ok(())
 }
