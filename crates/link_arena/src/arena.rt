@@ -1,5 +1,6 @@
 ghost use Rattle.std.specs.Prelude.{◌≡◌, ◌≢◌, ℕ, ◌+◌, ◌<◌, ◌≤◌, [], Some, None, IfOk, OnOk, OnErr, IfSome, IfNone, IsTrue, ◌↔◌, ◌^◌};
 
+use crate::kept::Kept;
 use slab::Slab;
 use std::alloc::{AllocError, Global};
 use std::marker::Model;
@@ -14,17 +15,26 @@ pub struct Links {
 }
 
 // What the slab holds under each key that it gave out. A cell with no value waits for one.
-#[derive(Drop)]
 struct Cell<V> {
-    value: Option<V>,
+    value: Option<Kept<V>>,
     first: Links,
     second: Links,
+}
+
+// A cell may be let go of whatever `V` is, as the slab asks. So the arena, before it ends, takes each value out.
+impl<V> Drop for Cell<V> {
+    fn drop(self) {
+        let Cell {
+            value: _,
+            first: _,
+            second: _,
+        } = self;
+    }
 }
 
 /// Values, each under a slot that the arena picks, with two sets of links among the slots.
 ///
 /// A slot keeps its value and its links until it is removed, and only then is it given out again.
-#[derive(Drop)]
 pub struct Arena<V> {
     cells: Slab<Cell<V>>,
     // The keys of the cells that wait for a value. It has room for the key of every cell.
@@ -44,6 +54,15 @@ impl<V> Model for Arena<V> {
     ghost view = { λ a. record { nodes = map node_of a.cells.slots; spare = vec_len a.free } };
 
     ghost invariant = { λ a. IsSound a.cells a.free.items (vec_capacity a.free) };
+}
+
+impl<V: Drop> Drop for Arena<V> {
+    fn drop(self) {
+        let Arena { cells, free: _ } = self;
+        for (_, cell) in cells {
+            cell.end();
+        }
+    }
 }
 
 impl Links {
@@ -69,6 +88,20 @@ impl<V> Cell<V> {
     }
 }
 
+impl<V: Drop> Cell<V> {
+    // Drops the value too.
+    fn end(self) {
+        let Cell {
+            value,
+            first: _,
+            second: _,
+        } = self;
+        if let Some(kept) = value {
+            let _value = kept.into_inner();
+        }
+    }
+}
+
 impl<V> Arena<V> {
     ghost use Rattle.link_arena.specs.Arena.{value_at, links_at, unlinked, IsLive, SameMap, Inserts, Removes, Relinks, Revalues, with_value};
     ghost use Rattle.link_arena.specs.Lends.{LendsValue};
@@ -82,6 +115,13 @@ impl<V> Arena<V> {
             cells: Slab::new(alloc),
             free: Vec::new(alloc),
         })
+    }
+
+    /// Ends an arena whose values were all taken out. An arena of values that may be dropped needs no such call.
+    pub fn destroy_empty(self)
+        requires { (slot : ℕ) → value_at self slot ≡ None }
+    {
+        let Arena { cells: _, free: _ } = self;
     }
 
     /// Makes room for one value more at least, which is the only way to take memory. An error changes nothing, and comes
@@ -118,7 +158,7 @@ impl<V> Arena<V> {
         let cell = &mut self.cells[slot as usize];
         cell.first = Links::NONE;
         cell.second = Links::NONE;
-        match mem::replace(&mut cell.value, Some(v)) {
+        match mem::replace(&mut cell.value, Some(Kept::new(v))) {
             None => {}
             Some(_) => unreachable!(),
         }
@@ -137,7 +177,7 @@ impl<V> Arena<V> {
         let cell = &mut self.cells[slot as usize];
         let value = cell.value.take().unwrap();
         self.free.push_reserved(slot);
-        value
+        value.into_inner()
     }
 
     /// The value in a slot.
@@ -147,7 +187,7 @@ impl<V> Arena<V> {
     {
         let cell = &self.cells[slot as usize];
         match &cell.value {
-            Some(value) => value,
+            Some(value) => value.get(),
             None => unreachable!(),
         }
     }
@@ -160,7 +200,7 @@ impl<V> Arena<V> {
         ensures revalues { (v : V) → Revalues self.old (with_value self.old slot v) slot v }
     {
         let cell = &mut self.cells[slot as usize];
-        cell.value.as_mut().unwrap()
+        cell.value.as_mut().unwrap().get_mut()
     }
 
     /// Puts `v` in the place of the value in a slot, which comes back. Links stay.
@@ -171,8 +211,8 @@ impl<V> Arena<V> {
         ensures spare { self.new.spare ≡ self.old.spare }
     {
         let cell = &mut self.cells[slot as usize];
-        match mem::replace(&mut cell.value, Some(v)) {
-            Some(value) => value,
+        match mem::replace(&mut cell.value, Some(Kept::new(v))) {
+            Some(value) => value.into_inner(),
             None => unreachable!(),
         }
     }

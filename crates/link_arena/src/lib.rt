@@ -2,6 +2,7 @@
 #![tactic(auto)]
 
 mod arena;
+mod kept;
 #[cfg(test)]
 mod tests;
 

@@ -1,4 +1,5 @@
 use crate::{Arena, Links};
+use std::rc::Rc;
 use std::test::Fail;
 
 // Two values go in, links are written, values are changed, and an emptied slot is passed over and given out again.
@@ -25,5 +26,36 @@ fn slots_values_and_links(rt: HostRuntime) -> Result<(), Fail> {
     *arena.get_mut(b) = 22;
     assert_eq!(rt; *arena.get(b), 22);
     assert_eq!(rt; arena.next_live(0), Some(b));
+    Ok(())
+}
+
+// A value that may not be let go of.
+struct Mark(u32);
+
+// An arena of such values ends once each was taken out.
+#[test]
+fn ends_empty(rt: HostRuntime) -> Result<(), Fail> {
+    let mut arena = Arena::new(rt.alloc())?;
+    arena.reserve().expect(&rt, "room");
+    let slot = arena.insert_reserved(Mark(7));
+    let Mark(number) = arena.remove(slot);
+    assert_eq!(rt; number, 7);
+    match arena.next_live(0) {
+        None => arena.destroy_empty(),
+        Some(_) => panic!(rt; "a slot is live"),
+    }
+    Ok(())
+}
+
+// An arena of values that may be let go of drops those that it still has.
+#[test]
+fn drops_its_values(rt: HostRuntime) -> Result<(), Fail> {
+    let shared = Rc::new(rt.alloc(), 5)?;
+    let mut arena = Arena::new(rt.alloc())?;
+    arena.reserve()?;
+    arena.insert_reserved(shared.clone()?);
+    assert_eq!(rt; Rc::strong_count(&shared), 2);
+    drop(arena);
+    assert_eq!(rt; Rc::strong_count(&shared), 1);
     Ok(())
 }

@@ -5,9 +5,9 @@ use Rattle.link_arena.specs.Arena.{Arena, value_at, links_at, IsLive, Inserts, R
 use Rattle.pairing_heap.specs.Bench.{HoldBoth}
 use Rattle.pairing_heap.specs.Heap.{times_of, key_of_value, pairs_at, Stands, Holds, Lacks, LinksOnly, AddsPair, TakesPair, RekeysPair}
 use Rattle.pairing_heap.specs.Laws.{StaysIn, StaysWithout}
-use Rattle.pairing_heap.proofs.Counts.{one, one_same, one_other}
+use Rattle.pairing_heap.proofs.Counts.{one_other}
 use Rattle.pairing_heap.proofs.Rekeying.{live_held}
-use Rattle.pairing_heap.proofs.Staying.{stays, stays_elsewhere, stays_inserted, once, adds_slot, takes_slot, rekeys_slot}
+use Rattle.pairing_heap.proofs.Staying.{stays, stays_elsewhere, stays_inserted, adds_slot, takes_slot, added_held, taken_lacked, rekeys_slot}
 
 module _ {V : Type 0} where
   live_same : (old new : Arena V) (slot : ℕ) → value_at new slot ≡ value_at old slot → IsLive new slot → IsLive old slot
@@ -42,20 +42,12 @@ module _ {V : Type 0} where
     pub lacks_still : (old new : Arena V) (heap : Option ℕ) (slot : ℕ) → Stays old new heap → Lacks k key_of old heap slot → Lacks k key_of new heap slot
     lacks_still old new heap slot still lacks = omega (arith, same_times old new heap still slot, lacks)
 
-    -- a slot that was pushed is held, and so are those that were held
-    pub holds_pushed : (old new : Arena V) (heap later : Option ℕ) (slot : ℕ) → IsLive old slot → AddsPair k key_of nat_lt old new heap later slot → Holds k key_of new later slot
-    holds_pushed old new heap later slot live adds =
-        omega (arith, adds_slot k key_of nat_lt old new heap later slot live adds slot, one_same slot)
-
+    -- a slot that was held still is where another was pushed
     pub holds_beside : (old new : Arena V) (heap later : Option ℕ) (slot other : ℕ) → IsLive old slot → AddsPair k key_of nat_lt old new heap later slot → Holds k key_of old heap other → Holds k key_of new later other
     holds_beside old new heap later slot other live adds held =
         omega (arith, adds_slot k key_of nat_lt old new heap later slot live adds other, held)
 
-    -- a slot that was taken is lacked, and the others that were held still are
-    pub lacks_taken : (old new : Arena V) (heap later : Option ℕ) (slot : ℕ) → At old heap → TakesPair k key_of nat_lt old new heap later slot → Lacks k key_of new later slot
-    lacks_taken old new heap later slot stands takes =
-        omega (arith, takes_slot k key_of nat_lt old new heap later slot stands takes slot, one_same slot, once k key_of nat_lt old heap slot stands)
-
+    -- and where another was taken
     pub holds_left : (old new : Arena V) (heap later : Option ℕ) (slot other : ℕ) → At old heap → TakesPair k key_of nat_lt old new heap later slot → slot ≢ other → Holds k key_of old heap other → Holds k key_of new later other
     holds_left old new heap later slot other stands takes unlike held =
         omega (arith, takes_slot k key_of nat_lt old new heap later slot stands takes other, one_other slot other unlike, held)
@@ -143,11 +135,11 @@ module _ {V : Type 0} (left_of right_of : V → ℕ) where
         left_stands = left_still.stands;
         right_stands = adds_right.stands;
         in_left = λ other live. holds_still 0 left_of c d left_later other left_still (elim (cases_eq other slot) [
-          | inl same ↦ rw same (holds_pushed 0 left_of b c left left_later slot live_b adds_left)
+          | inl same ↦ rw same (added_held 0 left_of nat_lt b c left left_later slot live_b adds_left)
           | inr unlike ↦ holds_beside 0 left_of b c left left_later slot other live_b adds_left (holds_still 0 left_of a b left other left_there (both.in_left other (was_live other unlike live)))
         ]);
         in_right = λ other live. elim (cases_eq other slot) [
-          | inl same ↦ rw same (holds_pushed 1 right_of c d right right_later slot live_c adds_right)
+          | inl same ↦ rw same (added_held 1 right_of nat_lt c d right right_later slot live_c adds_right)
           | inr unlike ↦ holds_beside 1 right_of c d right right_later slot other live_c adds_right (holds_still 1 right_of b c right other right_still (holds_still 1 right_of a b right other right_there (both.in_right other (was_live other unlike live))))
         ];
       }
@@ -176,8 +168,8 @@ module _ {V : Type 0} (left_of right_of : V → ℕ) where
   left_both a b c d left left_later right right_later slot takes_left takes_right removes both =
       let right_still = right_beside_taken a b left left_later right slot takes_left both.right_stands in
       let left_still = left_beside_taken b c right right_later left_later slot takes_right takes_left.stands in
-      let left_lacks = lacks_still 0 left_of b c left_later slot left_still (lacks_taken 0 left_of a b left left_later slot both.left_stands takes_left) in
-      let right_lacks = lacks_taken 1 right_of b c right right_later slot right_still.stands takes_right in
+      let left_lacks = lacks_still 0 left_of b c left_later slot left_still (taken_lacked 0 left_of nat_lt a b left left_later slot both.left_stands takes_left) in
+      let right_lacks = taken_lacked 1 right_of nat_lt b c right right_later slot right_still.stands takes_right in
       let left_end = removed 0 left_of c d slot removes left_later left_still.stands left_lacks in
       let right_end = removed 1 right_of c d slot removes right_later takes_right.stands right_lacks in
       let was_live : (other : ℕ) → slot ≢ other → IsLive d other → IsLive a other = λ other unlike live.
@@ -206,8 +198,8 @@ module _ {V : Type 0} (left_of right_of : V → ℕ) where
   left_both_right_first a b c d left left_later right right_later slot takes_right takes_left removes both =
       let left_still = left_beside_taken a b right right_later left slot takes_right both.left_stands in
       let right_still = right_beside_taken b c left left_later right_later slot takes_left takes_right.stands in
-      let right_lacks = lacks_still 1 right_of b c right_later slot right_still (lacks_taken 1 right_of a b right right_later slot both.right_stands takes_right) in
-      let left_lacks = lacks_taken 0 left_of b c left left_later slot left_still.stands takes_left in
+      let right_lacks = lacks_still 1 right_of b c right_later slot right_still (taken_lacked 1 right_of nat_lt a b right right_later slot both.right_stands takes_right) in
+      let left_lacks = taken_lacked 0 left_of nat_lt b c left left_later slot left_still.stands takes_left in
       let left_end = removed 0 left_of c d slot removes left_later takes_left.stands left_lacks in
       let right_end = removed 1 right_of c d slot removes right_later right_still.stands right_lacks in
       let was_live : (other : ℕ) → slot ≢ other → IsLive d other → IsLive a other = λ other unlike live.
@@ -248,7 +240,7 @@ module _ {V : Type 0} (left_of right_of : V → ℕ) where
 
   pub can_push_again : (a b c : Arena V) (left left_later right right_mid : Option ℕ) (slot : ℕ) (value : V) → TakesRight a b right right_mid slot → RekeysPair 0 left_of nat_lt b c left left_later slot value → At 1 right_of a right → CanPush 1 right_of c right_mid slot
   can_push_again a b c left left_later right right_mid slot value takes rekeys stands =
-      let lacks = lacks_taken 1 right_of a b right right_mid slot stands takes in
+      let lacks = taken_lacked 1 right_of nat_lt a b right right_mid slot stands takes in
       let still = right_rekeyed b c left left_later right_mid slot value rekeys takes.stands lacks in
       record {
         stands = still.stands;
@@ -260,7 +252,7 @@ module _ {V : Type 0} (left_of right_of : V → ℕ) where
   pub changed : (a b c d : Arena V) (left left_later right right_mid right_later : Option ℕ) (slot : ℕ) (value : V) → IsLive a slot → TakesRight a b right right_mid slot → RekeysPair 0 left_of nat_lt b c left left_later slot value → AddsRight c d right_mid right_later slot → Both a left right → Both d left_later right_later
   changed a b c d left left_later right right_mid right_later slot value live takes rekeys adds both =
       let left_still = left_beside_taken a b right right_mid left slot takes both.left_stands in
-      let lacks = lacks_taken 1 right_of a b right right_mid slot both.right_stands takes in
+      let lacks = taken_lacked 1 right_of nat_lt a b right right_mid slot both.right_stands takes in
       let right_still = right_rekeyed b c left left_later right_mid slot value rekeys takes.stands lacks in
       let left_end = left_beside_added c d right_mid right_later left_later slot adds rekeys.stands in
       let live_b : IsLive b slot = ap is_some (takes.kept.values slot) ∙ live in
@@ -276,7 +268,7 @@ module _ {V : Type 0} (left_of right_of : V → ℕ) where
             let held = holds_still 0 left_of a b left other left_still (both.in_left other (was_live other now)) in
             holds_still 0 left_of c d left_later other left_end (omega (arith, rekeys_slot 0 left_of nat_lt b c left left_later slot value live_b rekeys other, held));
         in_right = λ other now. elim (cases_eq slot other) [
-          | inl same ↦ rw (← same) (holds_pushed 1 right_of c d right_mid right_later slot live_c adds)
+          | inl same ↦ rw (← same) (added_held 1 right_of nat_lt c d right_mid right_later slot live_c adds)
           | inr unlike ↦ holds_beside 1 right_of c d right_mid right_later slot other live_c adds (holds_still 1 right_of b c right_mid other right_still (holds_left 1 right_of a b right right_mid slot other both.right_stands takes unlike (both.in_right other (was_live other now))))
         ];
       }

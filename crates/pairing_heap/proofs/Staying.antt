@@ -5,6 +5,7 @@ use Rattle.link_arena.specs.Arena.{Arena, value_at, links_at, IsLive, Inserts}
 use Rattle.pairing_heap.specs.Heap.{times_of, key_of_value, pairs_at, Stands, Holds, Lacks, SameSlots, AddsPair, TakesPair, RekeysPair}
 use Rattle.pairing_heap.specs.Laws.{StaysIn, StaysWithout}
 use Rattle.pairing_heap.proofs.Adding.{key_from_live}
+use Rattle.pairing_heap.proofs.Counts.{one_same}
 use Rattle.pairing_heap.proofs.Rekeying.{live_held}
 use Rattle.pairing_heap.proofs.Size.{none_or_some}
 use Rattle.pairing_heap.proofs.Standing.{Stands-same, count_by-stands, count_by-more}
@@ -60,6 +61,14 @@ module _ {V X : Type 0} (k : ℕ) (key_of : V → X) (precedes : X → X → Boo
       let keyed = key_from_live key_of (value_at old slot) (live_held k key_of precedes old heap slot stands takes.held) in
       takes.pairs keyed.0 keyed.1 (λ pair. pair.1 == other)
       ∙ count_by-more (λ pair. pair.1 == other) (keyed.0, slot) (pairs_at k key_of new later)
+
+  pub added_held : (old new : Arena V) (heap later : Option ℕ) (slot : ℕ) → IsLive old slot → AddsPair k key_of precedes old new heap later slot → Holds k key_of new later slot
+  added_held old new heap later slot live adds =
+      omega (arith, adds_slot old new heap later slot live adds slot, one_same slot)
+
+  pub taken_lacked : (old new : Arena V) (heap later : Option ℕ) (slot : ℕ) → Stands k key_of precedes old heap → TakesPair k key_of precedes old new heap later slot → Lacks k key_of new later slot
+  taken_lacked old new heap later slot stands takes =
+      omega (arith, takes_slot old new heap later slot stands takes slot, one_same slot, once old heap slot stands)
 
   pub rekeys_slot : (old new : Arena V) (heap later : Option ℕ) (slot : ℕ) (value : V) → IsLive old slot → RekeysPair k key_of precedes old new heap later slot value → (other : ℕ) → times_of (pairs_at k key_of new later) other ≡ times_of (pairs_at k key_of old heap) other
   rekeys_slot old new heap later slot value live rekeys other =

@@ -57,6 +57,14 @@ module _ {V X : Type 0} (k : ℕ) (key_of : V → X) (precedes : X → X → Boo
       (old new : Arena V) (heap later : Option ℕ) (slot : ℕ) → Stands k key_of precedes old heap → TakesPair k key_of precedes old new heap later slot → (other : ℕ)
       → times_of (pairs_at k key_of old heap) other ≡ (if slot == other then 1 else 0) + times_of (pairs_at k key_of new later) other
 
+  -- so the heap has the slot of a pair that came in
+  abbrev pub AddedIsHeld : Type 0
+  AddedIsHeld = (old new : Arena V) (heap later : Option ℕ) (slot : ℕ) → IsLive old slot → AddsPair k key_of precedes old new heap later slot → Holds k key_of new later slot
+
+  -- and it has not the slot of a pair that went out
+  abbrev pub TakenIsLacked : Type 0
+  TakenIsLacked = (old new : Arena V) (heap later : Option ℕ) (slot : ℕ) → Stands k key_of precedes old heap → TakesPair k key_of precedes old new heap later slot → Lacks k key_of new later slot
+
   -- where a slot gets another value, each slot stands in the heap as often
   abbrev pub RekeysNoSlot : Type 0
   RekeysNoSlot =

@@ -1,6 +1,6 @@
 //! Laws of heaps, for whatever holds an arena. Each is the contract of a function that does nothing.
 
-ghost use Rattle.pairing_heap.specs.Laws.{HeldAreLive, SlotsStandOnce, StaysWhereSlotsStay, StaysWhereReserved, StaysWhereInserted, StaysWhereRemoved, StaysWhereRevalued, StaysWhereOtherSetChanges, AddsOneSlot, TakesOneSlot, RekeysNoSlot};
+ghost use Rattle.pairing_heap.specs.Laws.{HeldAreLive, SlotsStandOnce, StaysWhereSlotsStay, StaysWhereReserved, StaysWhereInserted, StaysWhereRemoved, StaysWhereRevalued, StaysWhereOtherSetChanges, AddsOneSlot, TakesOneSlot, AddedIsHeld, TakenIsLacked, RekeysNoSlot};
 
 use crate::{HeapKey, Keyed};
 
@@ -52,6 +52,16 @@ pub fn adds_one_slot<V: Keyed<K>, const K: usize>()
 /// Where a pair goes out, its slot stands in the heap no more, and each other slot as often.
 pub fn takes_one_slot<V: Keyed<K>, const K: usize>()
     ensures { TakesOneSlot K V.key_of V.Key.precedes }
+{}
+
+/// A heap has the slot of a pair that came in.
+pub fn added_is_held<V: Keyed<K>, const K: usize>()
+    ensures { AddedIsHeld K V.key_of V.Key.precedes }
+{}
+
+/// A heap has not the slot of a pair that went out.
+pub fn taken_is_lacked<V: Keyed<K>, const K: usize>()
+    ensures { TakenIsLacked K V.key_of V.Key.precedes }
 {}
 
 /// Where a slot gets another value, each slot stands in the heap as often.

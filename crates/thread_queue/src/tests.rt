@@ -1,14 +1,14 @@
 ghost use Rattle.std.specs.Prelude.{◌≡◌, ◌+◌, ◌<◌};
+ghost use Rattle.link_arena.specs.Arena.{IsLive};
 ghost use Rattle.thread_queue.specs.Queue.{StandsIn};
 
 use crate::laws::{stays_where_inserted, stays_where_slots_stay};
 use crate::{Item, ThreadQueue};
-use link_arena::Arena;
+use link_arena::{Arena, Links};
 use pairing_heap::Steps;
 use sched_base::{Bucket, Thread};
 use std::alloc::Global;
 use std::marker::{Brand, Model};
-use std::mem::ManuallyDrop;
 use std::process::Abort;
 use std::sync::ledger::{Blank, Ledger};
 
@@ -127,11 +127,39 @@ impl Bench {
         self.queue.len()
     }
 
-    // Threads may not be dropped, so the arena is left to the end of the process.
-    fn leave_to_the_end(self) {
+    // Once no slot is queued, the threads leave the arena.
+    fn end<R: Abort>(self, rt: &R) {
         let Bench { arena, queue: _ } = self;
-        let _kept = unsafe { ManuallyDrop::new_unchecked(arena) };
+        end(rt, arena);
     }
+}
+
+// Takes out the items, which are in no queue, and ends the arena.
+fn end<R: Abort>(rt: &R, mut arena: Arena<Item>) {
+    for _ in 0..8 {
+        let Some(slot) = arena.next_live(0) else {
+            break;
+        };
+        take_out(rt, &mut arena, slot);
+    }
+    match arena.next_live(0) {
+        None => arena.destroy_empty(),
+        Some(_) => panic!(rt; "a slot is live"),
+    }
+}
+
+fn take_out<R: Abort>(rt: &R, arena: &mut Arena<Item>, slot: u32)
+    requires { IsLive arena.old slot }
+{
+    assert_eq!(rt; arena.links(0, slot), Links::NONE);
+    assert_eq!(rt; arena.links(1, slot), Links::NONE);
+    let Item {
+        thread,
+        pri: _,
+        number: _,
+        arrival: _,
+    } = arena.remove(slot);
+    let _facts = thread.into_facts();
 }
 
 // Three threads, by name, priority and order number.
@@ -164,7 +192,7 @@ fn run<R: Abort, L: Ledger>(
     for name in names.iter_mut() {
         *name = bench.leave(steps);
     }
-    bench.leave_to_the_end();
+    bench.end(rt);
     (len, names)
 }
 

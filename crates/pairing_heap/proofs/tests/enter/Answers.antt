@@ -1,6 +1,7 @@
 -- The new slot is in no heap, and comes into both.
-use Rattle.std.proofs.Common.{lit<, ap, ◌∙◌, is_some}
-use Rattle.pairing_heap.proofs.Both.{can_push_left, can_push_right, left_beside_added, holds_pushed, holds_still, entered}
+use Rattle.std.proofs.Common.{lit<, ap, ◌∙◌, is_some, nat_lt}
+use Rattle.pairing_heap.proofs.Both.{can_push_left, can_push_right, left_beside_added, holds_still, entered}
+use Rattle.pairing_heap.proofs.Staying.{added_held}
 use Rattle.pairing_heap.proofs.tests.enter.Goals as goal
 
 pub push-requires : goal.push-requires
@@ -21,7 +22,7 @@ returns-clause-left g c =
 pub returns-clause-in_left : goal.returns-clause-in_left
 returns-clause-in_left g c =
     let still = left_beside_added (λ s. s.left) (λ s. s.right) _ _ _ _ _ _ c.push-2.ensures.adds c.push.ensures.adds.stands in
-    holds_still 0 (λ s. s.left) _ _ _ _ still (holds_pushed 0 (λ s. s.left) _ _ _ _ _ (ap is_some c.insert_reserved-slot.ensures.inserts.stored) c.push.ensures.adds)
+    holds_still 0 (λ s. s.left) _ _ _ _ still (added_held 0 (λ s. s.left) nat_lt _ _ _ _ _ (ap is_some c.insert_reserved-slot.ensures.inserts.stored) c.push.ensures.adds)
 
 pub returns-clause-both : goal.returns-clause-both
 returns-clause-both g c = λ both.

@@ -1,5 +1,5 @@
 -- Any value may be written, so the cell has one afterwards.
-use Rattle.std.proofs.Common.{refl, sym, ap, ◌∙◌, vec_len}
+use Rattle.std.proofs.Common.{Some, refl, sym, ap, ◌∙◌, vec_len}
 use Rattle.std.specs.Option.{option_copied_mut}
 use Rattle.link_arena.specs.Arena.{value_at, with_value}
 use Rattle.link_arena.proofs.SoundLemmas.{IsSound-written}
@@ -22,7 +22,7 @@ returns g c =
       ),
       record {
         writes_back = tt;
-        value = ap (λ a. value_at a c.args.slot) (sym c.self.view_is) ∙ value_at-found cells (vec_len c.self.inside.free) _ _ found ∙ value;
+        value = ap (λ a. value_at a c.args.slot) (sym c.self.view_is) ∙ value_at-found cells (vec_len c.self.inside.free) _ _ found ∙ value ∙ ap Some (sym c.get_mut.ensures.value);
         revalues = λ w. Revalues-with_value c.args.self.now c.args.slot w c.requires;
       },
     )
