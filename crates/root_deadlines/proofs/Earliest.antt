@@ -1,35 +1,35 @@
 -- One pass over the ten lanes finds the filled lane that is due first.
-use Rattle.std.proofs.Common.{◌≡◌, ◌↔◌, ◌&&◌, ◌||◌, ◌==◌, nat_lt, ℕ, Bool, true, false, cond, List, [], ◌∷◌, length, map, fold, Option, None, Some, option_map, IsNone, refl, sym, ap, ◌∙◌, subst, arith}
+use Rattle.std.proofs.Common.{◌≡◌, ◌&&◌, ◌||◌, ◌==◌, nat_lt, ℕ, Bool, true, false, cond, List, [], ◌∷◌, length, map, fold, Option, None, Some, option_map, refl, sym, ap, ◌∙◌}
 use Rattle.std.specs.Prelude.{slice_index, slice_index_or}
 use Rattle.std.specs.List.{list_all}
-use Rattle.std.proofs.lemmas.Bool.{and_parts, true≢false}
+use Rattle.std.proofs.lemmas.Bool.{and_parts}
 use Rattle.bucket_tables.specs.declared.Lane.{Lane}
 use Rattle.flat_policy.specs.Queue.{LaneWindow, timeshare_lanes}
 use Rattle.flat_policy.specs.Windows.{due_before, earliest_of, stands_higher}
 use Rattle.root_deadlines.specs.declared.lanes.Due.{Due}
-use Rattle.root_deadlines.specs.Lanes.{AreWindowsOf, filled_among}
+use Rattle.root_deadlines.specs.Lanes.{AreWindowsOf, filled_among, first_of}
 use Rattle.root_deadlines.specs.Places.{place_of}
-use Rattle.root_deadlines.specs.Sooner.{sooner_of, sooner_with}
+use Rattle.root_deadlines.specs.Sooner.{found_or, sooner_of, sooner_with}
 use Rattle.root_deadlines.proofs.Least.{better_of, by_pass}
 use Rattle.root_deadlines.proofs.Ranks.{due_by_key, in_order, key, not_back}
 use Rattle.root_deadlines.proofs.Tens.{by_ten}
 
 -- the pass that the code makes
-abbrev due_at : List ℕ → Lane → Due
+abbrev pub due_at : List ℕ → Lane → Due
 due_at ds l = record { lane = l; deadline = slice_index ds (place_of l) }
 
-abbrev pub passed : List Bool → List ℕ → Option Due
-passed fs ds = fold (λ (a : Option Due) (l : Lane). sooner_with (slice_index_or fs (place_of l) false) a (due_at ds l)) None timeshare_lanes
+abbrev pub passed : List Bool → List ℕ → Due → Due
+passed fs ds first = fold (λ (a : Due) (l : Lane). sooner_with (slice_index_or fs (place_of l) false) a (due_at ds l)) first timeshare_lanes
 
 -- the same over flags and lanes with their deadlines, beside each other
-abbrev over : List Bool → List Due → Option Due → Option Due
+abbrev over : List Bool → List Due → Due → Due
 over [] ds a = a
 over (f ∷ fs) [] a = a
 over (f ∷ fs) (d ∷ ds) a = over fs ds (sooner_with f a d)
 
-passed_over : (fs : List Bool) (ds : List ℕ) → length fs ≡ 10 → passed fs ds ≡ over fs (map (due_at ds) timeshare_lanes) None
-passed_over fs ds ten =
-    by_ten (λ gs. passed gs ds ≡ over gs (map (due_at ds) timeshare_lanes) None) (λ a b c d e f g h i j. refl) fs ten
+passed_over : (fs : List Bool) (ds : List ℕ) (a : Due) → length fs ≡ 10 → passed fs ds a ≡ over fs (map (due_at ds) timeshare_lanes) a
+passed_over fs ds a ten =
+    by_ten (λ gs. passed gs ds a ≡ over gs (map (due_at ds) timeshare_lanes) a) (λ u0 u1 u2 u3 u4 u5 u6 u7 u8 u9. refl) fs ten
 
 -- lanes and deadlines, beside each other
 abbrev dues : List Lane → List ℕ → List Due
@@ -47,98 +47,122 @@ dues_of : (ws : List LaneWindow) → dues (map (λ (w : LaneWindow). w.lane) ws)
 dues_of [] = refl
 dues_of (w ∷ ws) = ap (λ ds. due_of w ∷ ds) (dues_of ws)
 
-lanes_of : (ls : List Lane) (ds : List ℕ) → length ls ≡ length ds → map (λ (d : Due). d.lane) (dues ls ds) ≡ ls
-lanes_of [] ds same = refl
-lanes_of (l ∷ ls) [] same = absurd (omega arith)
-lanes_of (l ∷ ls) (d ∷ ds) same = ap (λ ms. l ∷ ms) (lanes_of ls ds (omega arith))
-
--- one step over windows that come in their order
-abbrev after : Option LaneWindow → List Lane → Bool
-after None ls = true
-after (Some x) ls = list_all (stands_higher x.lane) ls
-
-after_tail : (a : Option LaneWindow) (l : Lane) (ls : List Lane) → after a (l ∷ ls) ≡ true → after a ls ≡ true
-after_tail None l ls h = refl
-after_tail (Some x) l ls h = (and_parts (stands_higher x.lane l) (list_all (stands_higher x.lane) ls) h).1
-
-after_step : (a : Option LaneWindow) (w : LaneWindow) (ls : List Lane) → after a (w.lane ∷ ls) ≡ true → list_all (stands_higher w.lane) ls ≡ true
-    → after (better_of due_before a w) ls ≡ true
-after_step None w ls h rest = rest
-after_step (Some x) w ls h rest =
-    elim (due_before w x) as (λ b. after (cond b (Some w) (Some x)) ls ≡ true) [ true ↦ rest | false ↦ after_tail (Some x) w.lane ls h ]
-
 first_alone : (a b : Bool) → (a || (b && false)) ≡ a
 first_alone true b = refl
 first_alone false true = refl
 first_alone false false = refl
 
-step_of : (a : Option LaneWindow) (w : LaneWindow) (ls : List Lane) → after a (w.lane ∷ ls) ≡ true
-    → sooner_of (option_map due_of a) (due_of w) ≡ option_map due_of (better_of due_before a w)
-step_of None w ls h = refl
-step_of (Some x) w ls h =
-    let later = not_back x.lane w.lane (and_parts (stands_higher x.lane w.lane) (list_all (stands_higher x.lane) ls) h).0 in
-    let by_deadline : due_before w x ≡ nat_lt w.deadline x.deadline =
-    ap (λ b. nat_lt w.deadline x.deadline || ((w.deadline == x.deadline) && b)) later
-    ∙ first_alone (nat_lt w.deadline x.deadline) (w.deadline == x.deadline) in
-    ap (λ b. cond b (Some (due_of w)) (Some (due_of x))) (sym by_deadline)
-    ∙ elim (due_before w x) as (λ b. cond b (Some (due_of w)) (Some (due_of x)) ≡ option_map due_of (cond b (Some w) (Some x))) [ true ↦ refl | false ↦ refl ]
+-- of two windows in their order, the later one is due before the earlier one by its deadline alone
+by_deadline : (x w : LaneWindow) → stands_higher x.lane w.lane ≡ true → due_before w x ≡ nat_lt w.deadline x.deadline
+by_deadline x w higher =
+    ap (λ b. nat_lt w.deadline x.deadline || ((w.deadline == x.deadline) && b)) (not_back x.lane w.lane higher)
+    ∙ first_alone (nat_lt w.deadline x.deadline) (w.deadline == x.deadline)
 
-over_windows : (fs : List Bool) (ws : List LaneWindow) (a : Option LaneWindow)
-    → after a (map (λ (w : LaneWindow). w.lane) ws) ≡ true → in_order (map (λ (w : LaneWindow). w.lane) ws) ≡ true
-    → over fs (map due_of ws) (option_map due_of a) ≡ option_map due_of (fold (better_of due_before) a (filled_among fs ws))
-over_windows [] ws a later order = refl
-over_windows (f ∷ fs) [] a later order = refl
-over_windows (true ∷ fs) (w ∷ ws) a later order =
+-- a pass over windows in their order, from one that stands higher than all of them
+over_windows : (fs : List Bool) (ws : List LaneWindow) (x : LaneWindow)
+    → list_all (stands_higher x.lane) (map (λ (w : LaneWindow). w.lane) ws) ≡ true → in_order (map (λ (w : LaneWindow). w.lane) ws) ≡ true
+    → Some (over fs (map due_of ws) (due_of x)) ≡ option_map due_of (fold (better_of due_before) (Some x) (filled_among fs ws))
+over_windows [] ws x later order = refl
+over_windows (f ∷ fs) [] x later order = refl
+over_windows (true ∷ fs) (w ∷ ws) x later order =
     let ls = map (λ (v : LaneWindow). v.lane) ws in
     let parts = and_parts (list_all (stands_higher w.lane) ls) (in_order ls) order in
-    ap (λ b. over fs (map due_of ws) b) (step_of a w ls later)
-    ∙ over_windows fs ws (better_of due_before a w) (after_step a w ls later parts.0) parts.1
-over_windows (false ∷ fs) (w ∷ ws) a later order =
+    let rest = and_parts (stands_higher x.lane w.lane) (list_all (stands_higher x.lane) ls) later in
+    ap (λ b. Some (over fs (map due_of ws) (cond b (due_of w) (due_of x)))) (sym (by_deadline x w rest.0))
+    ∙ elim (due_before w x) as (λ b. Some (over fs (map due_of ws) (cond b (due_of w) (due_of x)))
+    ≡ option_map due_of (fold (better_of due_before) (cond b (Some w) (Some x)) (filled_among fs ws))) [
+      | true ↦ over_windows fs ws w parts.0 parts.1
+      | false ↦ over_windows fs ws x rest.1 parts.1
+    ]
+over_windows (false ∷ fs) (w ∷ ws) x later order =
     let ls = map (λ (v : LaneWindow). v.lane) ws in
-    over_windows fs ws a (after_tail a w.lane ls later) (and_parts (list_all (stands_higher w.lane) ls) (in_order ls) order).1
+    over_windows fs ws x (and_parts (stands_higher x.lane w.lane) (list_all (stands_higher x.lane) ls) later).1
+    (and_parts (list_all (stands_higher w.lane) ls) (in_order ls) order).1
+
+-- the same from the first that is filled
+from_first : (fs : List Bool) (ws : List LaneWindow) (y : Due) → in_order (map (λ (w : LaneWindow). w.lane) ws) ≡ true
+    → first_of (filled_among fs (map due_of ws)) ≡ Some y
+    → Some (over fs (map due_of ws) y) ≡ option_map due_of (fold (better_of due_before) None (filled_among fs ws))
+from_first [] ws y order first = absurd cc
+from_first (f ∷ fs) [] y order first = absurd cc
+from_first (true ∷ fs) (w ∷ ws) y order first =
+    let ls = map (λ (v : LaneWindow). v.lane) ws in
+    let parts = and_parts (list_all (stands_higher w.lane) ls) (in_order ls) order in
+    let here : y ≡ due_of w = cc in
+    ap (λ d. Some (over fs (map due_of ws) (sooner_of d (due_of w)))) here
+    ∙ elim (nat_lt w.deadline w.deadline) as (λ b. Some (over fs (map due_of ws) (cond b (due_of w) (due_of w))) ≡ Some (over fs (map due_of ws) (due_of w))) [
+      | true ↦ refl
+      | false ↦ refl
+    ]
+    ∙ over_windows fs ws w parts.0 parts.1
+from_first (false ∷ fs) (w ∷ ws) y order first =
+    let ls = map (λ (v : LaneWindow). v.lane) ws in
+    from_first fs ws y (and_parts (list_all (stands_higher w.lane) ls) (in_order ls) order).1 first
+
+first_map : {X Y : Type 0} (f : X → Y) (fs : List Bool) (xs : List X) → first_of (filled_among fs (map f xs)) ≡ option_map f (first_of (filled_among fs xs))
+first_map f [] xs = refl
+first_map f (b ∷ fs) [] = refl
+first_map f (true ∷ fs) (x ∷ xs) = refl
+first_map f (false ∷ fs) (x ∷ xs) = first_map f fs xs
 
 lane_of_due : (a : Option LaneWindow) → option_map (λ (d : Due). d.lane) (option_map due_of a) ≡ option_map (λ (e : LaneWindow). e.lane) a
 lane_of_due None = refl
 lane_of_due (Some w) = refl
 
-pub earliest_is : (fs : List Bool) (ds : List ℕ) → length fs ≡ 10 → length ds ≡ 10 → (ws : List LaneWindow) → AreWindowsOf (record { filled = fs; deadlines = ds }) ws
-    → option_map (λ (d : Due). d.lane) (passed fs ds) ≡ option_map (λ (e : LaneWindow). e.lane) (earliest_of (filled_among fs ws))
-earliest_is fs ds flags numbers ws are =
-    ap (λ o. option_map (λ (d : Due). d.lane) o)
-    (passed_over fs ds flags
-    ∙ ap (λ es. over fs es None) (dues_at ds numbers)
-    ∙ ap (λ ls. over fs (dues ls ds) None) (sym are.lanes)
-    ∙ ap (λ es. over fs (dues (map (λ (w : LaneWindow). w.lane) ws) es) None) (sym are.deadlines)
-    ∙ ap (λ es. over fs es None) (dues_of ws)
-    ∙ over_windows fs ws None refl (ap in_order are.lanes))
+pub earliest_is : (fs : List Bool) (ds : List ℕ) → length fs ≡ 10 → length ds ≡ 10 → (x : Lane) → Some x ≡ first_of (filled_among fs timeshare_lanes)
+    → (ws : List LaneWindow) → AreWindowsOf (record { filled = fs; deadlines = ds }) ws
+    → Some (passed fs ds (due_at ds x)).lane ≡ option_map (λ (e : LaneWindow). e.lane) (earliest_of (filled_among fs ws))
+earliest_is fs ds flags numbers x first ws are =
+    let same : map (due_at ds) timeshare_lanes ≡ map due_of ws =
+    dues_at ds numbers
+    ∙ ap (λ ls. dues ls ds) (sym are.lanes)
+    ∙ ap (λ es. dues (map (λ (w : LaneWindow). w.lane) ws) es) (sym are.deadlines)
+    ∙ dues_of ws in
+    let begins : first_of (filled_among fs (map due_of ws)) ≡ Some (due_at ds x) =
+    ap (λ es. first_of (filled_among fs es)) (sym same) ∙ first_map (due_at ds) fs timeshare_lanes ∙ ap (option_map (due_at ds)) (sym first) in
+    ap (λ (d : Due). Some d.lane) (passed_over fs ds (due_at ds x) flags ∙ ap (λ es. over fs es (due_at ds x)) same)
+    ∙ ap (λ o. option_map (λ (d : Due). d.lane) o) (from_first fs ws (due_at ds x) (ap in_order are.lanes) begins)
     ∙ lane_of_due (fold (better_of due_before) None (filled_among fs ws))
     ∙ ap (λ o. option_map (λ (e : LaneWindow). e.lane) o) (sym (by_pass due_before key due_by_key (filled_among fs ws)))
 
--- none is found exactly where none is filled
-found_stays : (fs : List Bool) (ds : List Due) (x : Due) → IsNone (over fs ds (Some x)) → ⊥
-found_stays [] ds x none = true≢false none
-found_stays (f ∷ fs) [] x none = true≢false none
-found_stays (true ∷ fs) (d ∷ ds) x none =
-    elim (nat_lt d.deadline x.deadline) as (λ b. IsNone (over fs ds (cond b (Some d) (Some x))) → ⊥) [ true ↦ found_stays fs ds d | false ↦ found_stays fs ds x ] none
-found_stays (false ∷ fs) (d ∷ ds) x none = found_stays fs ds x none
+-- none is the first of no list but the empty one
+pub first_none : {X : Type 0} (xs : List X) → None ≡ first_of xs → xs ≡ []
+first_none [] h = refl
+first_none (x ∷ xs) h = absurd cc
 
-none_over : (fs : List Bool) (ds : List Due) → IsNone (over fs ds None) ↔ (filled_among fs (map (λ (d : Due). d.lane) ds) ≡ [])
-none_over [] ds = (λ n. refl, λ e. refl)
-none_over (f ∷ fs) [] = (λ n. refl, λ e. refl)
-none_over (true ∷ fs) (d ∷ ds) = (λ n. absurd (found_stays fs ds d n), λ e. absurd cc)
-none_over (false ∷ fs) (d ∷ ds) = none_over fs ds
+pub none_is : (fs : List Bool) (ds : List ℕ) → None ≡ first_of (filled_among fs timeshare_lanes)
+    → (ws : List LaneWindow) → AreWindowsOf (record { filled = fs; deadlines = ds }) ws
+    → None ≡ option_map (λ (e : LaneWindow). e.lane) (earliest_of (filled_among fs ws))
+none_is fs ds none ws are =
+    let lanes : None ≡ option_map (λ (w : LaneWindow). w.lane) (first_of (filled_among fs ws)) =
+    none ∙ ap (λ ls. first_of (filled_among fs ls)) (sym are.lanes) ∙ first_map (λ (w : LaneWindow). w.lane) fs ws in
+    ap (λ us. option_map (λ (e : LaneWindow). e.lane) (earliest_of us)) (sym (first_none (filled_among fs ws) (unmapped (first_of (filled_among fs ws)) lanes)))
+  where
+    unmapped : (o : Option LaneWindow) → None ≡ option_map (λ (w : LaneWindow). w.lane) o → None ≡ o
+    unmapped None h = refl
+    unmapped (Some w) h = absurd cc
 
-lane_none : (o : Option Due) → IsNone (option_map (λ (d : Due). d.lane) o) ↔ IsNone o
-lane_none None = (λ n. n, λ n. n)
-lane_none (Some d) = (λ n. n, λ n. n)
+-- the highest filled lane, by the pass that the code makes
+abbrev pub highest_by_place : List Bool → Option Lane
+highest_by_place fs = fold (λ (a : Option Lane) (l : Lane). found_or (slice_index_or fs (place_of l) false) a l) None timeshare_lanes
 
-pub none_is : (fs : List Bool) (ds : List ℕ) → length fs ≡ 10 → length ds ≡ 10
-    → IsNone (option_map (λ (d : Due). d.lane) (passed fs ds)) ↔ (filled_among fs timeshare_lanes ≡ [])
-none_is fs ds flags numbers =
-    let same : passed fs ds ≡ over fs (dues timeshare_lanes ds) None = passed_over fs ds flags ∙ ap (λ es. over fs es None) (dues_at ds numbers) in
-    let lanes : map (λ (d : Due). d.lane) (dues timeshare_lanes ds) ≡ timeshare_lanes = lanes_of timeshare_lanes ds (sym numbers) in
-    let both = none_over fs (dues timeshare_lanes ds) in
-    let outer = lane_none (passed fs ds) in (
-      λ n. ap (filled_among fs) (sym lanes) ∙ both.0 (subst (λ o. IsNone o) same (outer.0 n)),
-      λ e. outer.1 (subst (λ o. IsNone o) (sym same) (both.1 (ap (filled_among fs) lanes ∙ e))),
-    )
+abbrev found_over : List Bool → List Lane → Option Lane → Option Lane
+found_over [] ls a = a
+found_over (f ∷ fs) [] a = a
+found_over (f ∷ fs) (l ∷ ls) a = found_over fs ls (found_or f a l)
+
+found_stays : (fs : List Bool) (ls : List Lane) (x : Lane) → found_over fs ls (Some x) ≡ Some x
+found_stays [] ls x = refl
+found_stays (f ∷ fs) [] x = refl
+found_stays (f ∷ fs) (l ∷ ls) x = found_stays fs ls x
+
+first_found : (fs : List Bool) (ls : List Lane) → found_over fs ls None ≡ first_of (filled_among fs ls)
+first_found [] ls = refl
+first_found (f ∷ fs) [] = refl
+first_found (true ∷ fs) (l ∷ ls) = found_stays fs ls l
+first_found (false ∷ fs) (l ∷ ls) = first_found fs ls
+
+pub highest_is : (fs : List Bool) → length fs ≡ 10 → highest_by_place fs ≡ first_of (filled_among fs timeshare_lanes)
+highest_is fs ten =
+    by_ten (λ gs. highest_by_place gs ≡ found_over gs timeshare_lanes None) (λ u0 u1 u2 u3 u4 u5 u6 u7 u8 u9. refl) fs ten
+    ∙ first_found fs timeshare_lanes

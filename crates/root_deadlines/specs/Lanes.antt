@@ -1,5 +1,5 @@
 -- What is known of the ten timeshare lanes.
-use Rattle.std.specs.Prelude.{Bool, List, [], length, map, nat_lt, ℕ, ◌&&◌, ◌≡◌, ◌∷◌, false, true}
+use Rattle.std.specs.Prelude.{Bool, List, None, Option, Some, [], length, map, nat_lt, ℕ, ◌&&◌, ◌≡◌, ◌∷◌, false, true}
 use Rattle.sched_base.specs.Bucket.{index}
 use Rattle.sched_base.specs.declared.buckets.Bucket.{Bucket}
 use Rattle.bucket_tables.specs.declared.Lane.{Lane}
@@ -21,6 +21,11 @@ filled_among [] xs = []
 filled_among (f ∷ fs) [] = []
 filled_among (true ∷ fs) (x ∷ xs) = x ∷ filled_among fs xs
 filled_among (false ∷ fs) (x ∷ xs) = filled_among fs xs
+
+-- the first of a list
+abbrev pub first_of : {X : Type 0} → List X → Option X
+first_of [] = None
+first_of (x ∷ xs) = Some x
 
 -- the flags of those lanes whose bucket is higher than this one
 abbrev pub higher_than : Bucket → List Lane → List Bool → List Bool

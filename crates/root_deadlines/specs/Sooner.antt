@@ -1,13 +1,19 @@
--- Which of two lanes is due first, where the lanes come in their order.
+-- Which lane is the highest, and which is due first, where the lanes come in their order.
 use Rattle.std.specs.Prelude.{Bool, None, Option, Some, false, if◌then◌else◌, nat_lt, true}
+use Rattle.bucket_tables.specs.declared.Lane.{Lane}
 use Rattle.root_deadlines.specs.declared.lanes.Due.{Due}
 
--- the sooner of the one found so far and a later one; at one deadline the one found so far
-abbrev pub sooner_of : Option Due → Due → Option Due
-sooner_of None y = Some y
-sooner_of (Some x) y = if nat_lt y.deadline x.deadline then Some y else Some x
+-- the lane found so far, else one more, where that counts
+abbrev pub found_or : Bool → Option Lane → Lane → Option Lane
+found_or counts (Some l) at = Some l
+found_or true None at = Some at
+found_or false None at = None
 
--- the same, where the one more counts
-abbrev pub sooner_with : Bool → Option Due → Due → Option Due
+-- the sooner of the one found so far and a later one; at one deadline the one found so far
+abbrev pub sooner_of : Due → Due → Due
+sooner_of x y = if nat_lt y.deadline x.deadline then y else x
+
+-- the same, where the later one counts
+abbrev pub sooner_with : Bool → Due → Due → Due
 sooner_with true found y = sooner_of found y
 sooner_with false found y = found

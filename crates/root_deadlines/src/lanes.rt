@@ -4,9 +4,9 @@ ghost use Rattle.std.specs.Prelude.{◌≡◌, ◌≢◌, ◌↔◌, IfSome, IsN
 ghost use Rattle.std.specs.Option.{ForSome};
 ghost use Rattle.flat_policy.specs.Queue.{LaneWindow, timeshare_lanes};
 ghost use Rattle.flat_policy.specs.Windows.{earliest_of};
-ghost use Rattle.root_deadlines.specs.Lanes.{AreWindowsOf, filled_among, higher_than};
+ghost use Rattle.root_deadlines.specs.Lanes.{AreWindowsOf, filled_among, first_of, higher_than};
 ghost use Rattle.root_deadlines.specs.Places.{place_of};
-ghost use Rattle.root_deadlines.specs.Sooner.{sooner_with};
+ghost use Rattle.root_deadlines.specs.Sooner.{found_or, sooner_with};
 
 use crate::lane_set::LaneSet;
 use crate::places::place;
@@ -114,25 +114,48 @@ impl Lanes {
         self.filled.higher_than(bucket)
     }
 
+    /// The lane found so far, else one more lane where that is filled.
+    fn or_filled(&self, found: Option<Lane>, lane: Lane) -> Option<Lane>
+        requires lane { lane.bucket ≢ Bucket.Ui }
+        requires found { ForSome found (λ l. l.bucket ≢ Bucket.Ui) }
+        ensures lane { ForSome result (λ l. l.bucket ≢ Bucket.Ui) }
+        ensures found { result ≡ found_or (slice_index_or self.now.filled (place_of lane) false) found lane }
+    {
+        if found.is_some() || !self.filled(lane) {
+            found
+        } else {
+            Some(lane)
+        }
+    }
+
+    /// The highest filled lane.
+    fn highest(&self) -> Option<Lane>
+        ensures lane { ForSome result (λ l. l.bucket ≢ Bucket.Ui) }
+        ensures highest { result ≡ first_of (filled_among self.now.filled timeshare_lanes) }
+    {
+        let _ = &self.filled;
+        let mut found = None;
+        each_lane!(lane => found = self.or_filled(found, lane));
+        found
+    }
+
     /// The sooner of the lane found so far and one more, where that is filled. The lanes come in
     /// their order, so at one deadline the one found so far is first.
-    fn sooner(&self, first: Option<Due>, lane: Lane) -> Option<Due>
+    fn sooner(&self, first: Due, lane: Lane) -> Due
         requires lane { lane.bucket ≢ Bucket.Ui }
-        requires found { ForSome first (λ due. due.lane.bucket ≢ Bucket.Ui) }
-        ensures lane { ForSome result (λ due. due.lane.bucket ≢ Bucket.Ui) }
+        requires found { first.lane.bucket ≢ Bucket.Ui }
+        ensures lane { result.lane.bucket ≢ Bucket.Ui }
         ensures sooner { result ≡ sooner_with (slice_index_or self.now.filled (place_of lane) false) first
             (record { lane = lane; deadline = slice_index self.now.deadlines (place_of lane) }) }
     {
         if !self.filled(lane) {
             return first;
         }
-        let due = Due {
-            lane,
-            deadline: self.deadline(lane),
-        };
-        match first {
-            Some(found) if found.deadline <= due.deadline => first,
-            _ => Some(due),
+        let deadline = self.deadline(lane);
+        if deadline < first.deadline {
+            Due { lane, deadline }
+        } else {
+            first
         }
     }
 
@@ -148,8 +171,14 @@ impl Lanes {
             → result ≡ option_map (λ (e : LaneWindow). e.lane) (earliest_of (filled_among self.now.filled windows)) }
     {
         let _ = &self.filled;
-        let mut first = None;
+        let Some(highest) = self.highest() else {
+            return None;
+        };
+        let mut first = Due {
+            lane: highest,
+            deadline: self.deadline(highest),
+        };
         each_lane!(lane => first = self.sooner(first, lane));
-        first.map(|due| due.lane)
+        Some(first.lane)
     }
 }

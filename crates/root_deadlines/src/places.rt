@@ -13,12 +13,6 @@ pub fn place(lane: Lane) -> usize
     ensures place { result ≡ place_of lane }
     ensures small { result < 10 }
 {
-    let bucket = match lane.bucket {
-        Bucket::Ui | Bucket::Fg => 0,
-        Bucket::Ini => 2,
-        Bucket::Df => 4,
-        Bucket::Ut => 6,
-        Bucket::Bg => 8,
-    };
-    if lane.bound { bucket } else { bucket + 1 }
+    let unbound = if lane.bound { 0 } else { 1 };
+    lane.bucket.index() as usize * 2 + unbound - 2
 }
