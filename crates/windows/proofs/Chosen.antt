@@ -11,7 +11,7 @@ use Rattle.root_deadlines.proofs.Ranks.{in_order}
 use Rattle.windows.specs.declared.choice.Marks.{Marks}
 use Rattle.windows.specs.Views.{TenMarked, windows_over}
 use Rattle.windows.specs.WindowStates.{WindowState, filled_of}
-use Rattle.windows.proofs.Ordered.{filled_in_order, filtered_in_order, first_of, highest_is_first, lanes_of, none_filled, none_of_lanes}
+use Rattle.windows.proofs.Ordered.{filled_in_order, filtered_in_order, highest_is_first, lanes_of, none_filled, none_of_lanes}
 use Rattle.windows.proofs.Passing.{first_is_found, higher_among}
 use Rattle.windows.proofs.Places.{deadlines_over, lanes_over}
 

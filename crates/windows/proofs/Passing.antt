@@ -1,5 +1,5 @@
 -- One pass over some lanes finds the first of them that may pass.
-use Rattle.std.proofs.Common.{◌≡◌, nat_lt, Bool, true, false, ◌&&◌, cond, List, [], ◌∷◌, filter, find, length, Option, None, Some, option_map, refl, ap}
+use Rattle.std.proofs.Common.{◌≡◌, nat_lt, Bool, true, false, cond, List, [], ◌∷◌, filter, find, length, Option, None, Some, option_map, refl, ap}
 use Rattle.sched_base.specs.Bucket.{index}
 use Rattle.sched_base.specs.declared.buckets.Bucket.{Bucket}
 use Rattle.bucket_tables.specs.declared.Lane.{Lane}

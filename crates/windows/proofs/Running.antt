@@ -1,14 +1,13 @@
 -- The lanes of which nothing runs.
-use Rattle.std.proofs.Common.{◌≡◌, ◌<◌, ℕ, Bool, true, false, List, length, map, refl, ap, sym, ◌∙◌, arith}
+use Rattle.std.proofs.Common.{◌≡◌, ◌<◌, ℕ, Bool, true, false, List, refl, ap, sym, ◌∙◌, arith}
 use Rattle.std.specs.Prelude.{slice_index, slice_index_or}
 use Rattle.std.proofs.lemmas.List.{get_or-map}
 use Rattle.sched_base.specs.declared.buckets.Bucket.{Bucket}
 use Rattle.sched_base.specs.declared.buckets.Bucket.TheVariants.{Bg, Df, Fg, Ini, Ui, Ut}
-use Rattle.bucket_tables.specs.declared.Lane.{Lane}
 use Rattle.flat_policy.specs.declared.lanes.Starved.TheVariants.{No}
 use Rattle.flat_policy.specs.declared.lanes.Warp.TheVariants.{Unused}
 use Rattle.flat_policy.specs.declared.setup.Times.{Times}
-use Rattle.flat_policy.specs.Queue.{LaneWindow, lane, new_window}
+use Rattle.flat_policy.specs.Queue.{LaneWindow, lane}
 use Rattle.flat_policy.specs.Windows.{at_lane, expired_window}
 use Rattle.root_deadlines.specs.Lanes.{LaneTable}
 use Rattle.root_deadlines.specs.Places.{place_of}
@@ -16,7 +15,7 @@ use Rattle.windows.specs.declared.choice.Marks.{Marks}
 use Rattle.windows.specs.Views.{TenMarked, runs, windows_over}
 use Rattle.windows.specs.WindowStates.{WindowState, window_of}
 use Rattle.windows.proofs.Places.{read_at, stays_at}
-use Rattle.windows.proofs.Still.{not_ending, not_running}
+use Rattle.windows.proofs.Still.{not_running}
 
 abbrev pub means : List Times → LaneTable → List Marks → WindowState
 means ts t ms = record { times = ts; lanes = windows_over t.deadlines ms; filled = t.filled }

@@ -1,7 +1,7 @@
-use Rattle.std.proofs.Common.{◌≡◌, Bool, List, [], None, Some, ap, find, is_some, length, sym, true, ◌∙◌}
+use Rattle.std.proofs.Common.{Bool, List, None, Some, ap, is_some, length, sym, ◌∙◌}
 use Rattle.std.proofs.lemmas.Bool.{false≢true, true_from_ne_false}
 use Rattle.flat_policy.specs.Queue.{LaneWindow}
-use Rattle.flat_policy.specs.Windows.{may_pass, some_higher}
+use Rattle.flat_policy.specs.Windows.{some_higher}
 use Rattle.root_deadlines.specs.Lanes.{filled_among}
 use Rattle.windows.specs.Views.{windows_over}
 use Rattle.windows.specs.WindowStates.{filled_of}
