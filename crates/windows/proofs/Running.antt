@@ -20,12 +20,12 @@ use Rattle.windows.proofs.Still.{not_running}
 abbrev pub means : List Times → LaneTable → List Marks → WindowState
 means ts t ms = record { times = ts; lanes = windows_over t.deadlines ms; filled = t.filled }
 
--- a lane whose windows an expiry leaves leaves all
+-- a change that leaves the windows of its lane leaves all
 pub stays_of : (ts : List Times) (t : LaneTable) (ms : List Marks) (rs : List Bool) → TenMarked t ms rs → (w : WindowState) → means ts t ms ≡ w
-    → (b : Bucket) (bound : Bool) → (b ≡ Ui → ⊥) → (now : ℕ) → expired_window w.times now (window_of w (lane b bound)) ≡ window_of w (lane b bound)
-    → w ≡ record w { lanes = at_lane (lane b bound) (expired_window w.times now) w.lanes }
-stays_of ts t ms rs ten w view b bound other now same =
-    let f = expired_window ts now in
+    → (b : Bucket) (bound : Bool) → (b ≡ Ui → ⊥) → (change : List Times → LaneWindow → LaneWindow) → change w.times (window_of w (lane b bound)) ≡ window_of w (lane b bound)
+    → w ≡ record w { lanes = at_lane (lane b bound) (change w.times) w.lanes }
+stays_of ts t ms rs ten w view b bound other change same =
+    let f = change ts in
     let here = (rw (← view) at same) in
     rw (← view) (ap (λ (ls : List LaneWindow). record { times = ts; lanes = ls; filled = t.filled }) (stays_at b bound f t.deadlines ms other ten.deadlines ten.marks here))
 

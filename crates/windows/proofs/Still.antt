@@ -9,10 +9,10 @@ use Rattle.flat_policy.specs.declared.lanes.Warp.TheVariants.{Spent, Until, Unus
 use Rattle.flat_policy.specs.declared.setup.Times.{Times}
 use Rattle.flat_policy.specs.Queue.{LaneWindow}
 use Rattle.flat_policy.specs.Setup.{times_for}
-use Rattle.flat_policy.specs.Windows.{expired_warp, expired_window, renewed_deadline, window_over}
+use Rattle.flat_policy.specs.Windows.{begun_warp, expired_warp, expired_window, opened_window, renewed_deadline, window_over}
 use Rattle.root_deadlines.specs.Lanes.{filled_among}
 use Rattle.windows.specs.declared.choice.Marks.{Marks}
-use Rattle.windows.specs.OneLane.{is_ending, is_running, starves, warp_ends, warp_runs}
+use Rattle.windows.specs.OneLane.{is_ending, is_running, is_unused, starves, warp_ends, warp_runs}
 use Rattle.windows.specs.Views.{beside, runs}
 
 warp_still : (now : ℕ) (w : Warp) → warp_ends now w ≡ false → expired_warp now w ≡ w
@@ -28,6 +28,16 @@ not_ending ts now l h =
     let warped : LaneWindow = record l { warp = expired_warp now l.warp } in
     cond-false over (renewed_deadline ts now warped) warped parts.1
     ∙ ap (λ w. record { lane = l.lane; deadline = l.deadline; warp = w; starved = l.starved }) (warp_still now l.warp parts.0)
+
+-- a warp that began before, and a starvation window that is open, stay where a choice would begin them
+pub begun_stays : (span now : ℕ) (w : Warp) → is_unused w ≡ false → begun_warp span now w ≡ w
+begun_stays span now Unused h = absurd cc
+begun_stays span now (Until end) h = refl
+begun_stays span now Spent h = refl
+
+pub opened_stays : (now : ℕ) (s : Starved) → starves s ≡ true → opened_window now s ≡ s
+opened_stays now No h = absurd cc
+opened_stays now (Since start) h = refl
 
 warp_rests : (now : ℕ) (w : Warp) → warp_runs w ≡ false → warp_ends now w ≡ false
 warp_rests now Unused h = refl

@@ -21,6 +21,12 @@ warp_runs Unused = false
 warp_runs (Until end) = true
 warp_runs Spent = false
 
+-- a warp has not begun
+abbrev pub is_unused : Warp → Bool
+is_unused Unused = true
+is_unused (Until end) = false
+is_unused Spent = false
+
 -- a starvation window runs while it is there
 abbrev pub starves : Starved → Bool
 starves No = false

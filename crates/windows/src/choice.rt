@@ -199,9 +199,55 @@ impl Windows {
         } }
     {
         let (lane, kind) = self.chosen();
-        let changed = self.window(lane).chosen(kind, self.times(lane), now);
-        self.put(lane, changed);
+        match kind {
+            Kind::Pass => self.pass(lane, now),
+            Kind::Starve => self.starve(lane, now),
+            Kind::Natural => self.serve(lane, now),
+        }
         (lane, kind)
+    }
+
+    /// A lane passed an earlier deadline: an unused warp begins, and nothing else changes.
+    fn pass(&mut self, lane: Lane, now: u64)
+        requires lane { lane.bucket ≢ Bucket.Ui }
+        requires moment { now < 2 ^ 40 }
+        ensures { self.new ≡ record self.old {
+          lanes = at_lane lane (window_after self.old.times now Kind.Pass) self.old.lanes;
+        } }
+    {
+        let _ = &self.times;
+        let window = self.window(lane);
+        if window.is_unused() {
+            self.put(lane, window.chosen(Kind::Pass, self.times(lane), now));
+        }
+    }
+
+    /// A lane was served behind a higher one: its starvation window opens where it has none, and
+    /// nothing else changes.
+    fn starve(&mut self, lane: Lane, now: u64)
+        requires lane { lane.bucket ≢ Bucket.Ui }
+        requires moment { now < 2 ^ 40 }
+        ensures { self.new ≡ record self.old {
+          lanes = at_lane lane (window_after self.old.times now Kind.Starve) self.old.lanes;
+        } }
+    {
+        let _ = &self.times;
+        let window = self.window(lane);
+        if !window.is_starved() {
+            self.put(lane, window.chosen(Kind::Starve, self.times(lane), now));
+        }
+    }
+
+    /// A lane was served by its deadline: it gets a new one, and its windows end.
+    fn serve(&mut self, lane: Lane, now: u64)
+        requires lane { lane.bucket ≢ Bucket.Ui }
+        requires moment { now < 2 ^ 40 }
+        ensures { self.new ≡ record self.old {
+          lanes = at_lane lane (window_after self.old.times now Kind.Natural) self.old.lanes;
+        } }
+    {
+        let window = self.window(lane);
+        self.put(lane, window.chosen(Kind::Natural, self.times(lane), now));
     }
 
     /// The lane that is chosen by deadlines, and how.

@@ -5,7 +5,7 @@ ghost use Rattle.bucket_tables.specs.declared.Lane.{Lane};
 ghost use Rattle.flat_policy.specs.declared.setup.Times.{Times};
 ghost use Rattle.flat_policy.specs.Setup.{times_for};
 ghost use Rattle.flat_policy.specs.Windows.{begun_warp, expired_warp, expired_window, may_pass, opened_window, renewed_deadline, window_after, window_over};
-ghost use Rattle.windows.specs.OneLane.{is_ending, is_running, lane_window};
+ghost use Rattle.windows.specs.OneLane.{is_ending, is_running, is_unused, lane_window, starves};
 
 use flat_policy::lanes::{Kind, Starved, Warp};
 use flat_policy::setup::Times;
@@ -91,11 +91,25 @@ impl Window {
         }
     }
 
+    /// Whether its warp has not begun.
+    pub fn is_unused(self) -> bool
+        ensures { result ≡ is_unused self.warp }
+    {
+        matches!(self.warp, Warp::Unused)
+    }
+
+    /// Whether it stands in a starvation window.
+    pub fn is_starved(self) -> bool
+        ensures { result ≡ starves self.starved }
+    {
+        matches!(self.starved, Starved::Since(_))
+    }
+
     /// Whether its warp or its starvation window runs.
     pub fn is_running(self) -> bool
         ensures { result ≡ is_running self.warp self.starved }
     {
-        matches!(self.warp, Warp::Until(_)) || matches!(self.starved, Starved::Since(_))
+        matches!(self.warp, Warp::Until(_)) || self.is_starved()
     }
 
     /// Whether the windows change when they expire: the end of the warp has come, or the starvation

@@ -10,7 +10,7 @@ returns-then-not-contains c =
     let w = c.args.self.now in
     let i = c.self.inside in
     let at = c.args.lane in
-    stays_of i.times i.lanes i.marks i.running c.self.invariant w c.self.view_is at.bucket at.bound c.requires.lane c.args.now
+    stays_of i.times i.lanes i.marks i.running c.self.invariant w c.self.view_is at.bucket at.bound c.requires.lane (λ ts. expired_window ts c.args.now)
     (rests_at i.times i.lanes i.marks i.running c.self.invariant w c.self.view_is at.bucket at.bound c.requires.lane c.args.now
     (sym c.contains.ensures ∙ c.if-not-contains.true))
 
@@ -22,5 +22,5 @@ returns-else-is_ending c =
     let read = c.window-window.ensures in
     let still = not_ending w.times c.args.now (lane_window at c.window-window.result)
     (sym (c.is_ending.ensures w.times at c.times-times.ensures) ∙ c.if-is_ending.false) in
-    stays_of i.times i.lanes i.marks i.running c.self.invariant w c.self.view_is at.bucket at.bound c.requires.lane c.args.now
+    stays_of i.times i.lanes i.marks i.running c.self.invariant w c.self.view_is at.bucket at.bound c.requires.lane (λ ts. expired_window ts c.args.now)
     (ap (expired_window w.times c.args.now) read ∙ still ∙ sym read)
