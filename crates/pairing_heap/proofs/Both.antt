@@ -1,10 +1,10 @@
 -- A slot comes into two heaps of an arena, leaves them, and gets another value in them: what the tests do.
-use Rattle.std.proofs.Common.{◌≡◌, ◌≢◌, ℕ, nat_lt, Bool, Option, None, is_some, sym, ap, ◌∙◌, inl, inr, arith, ◌⊎◌}
+use Rattle.std.proofs.Common.{◌≡◌, ◌≢◌, ℕ, nat_lt, Option, None, is_some, sym, ap, ◌∙◌, inl, inr, arith}
 use Rattle.std.proofs.lemmas.Bool.{cases_eq}
 use Rattle.link_arena.specs.Arena.{Arena, value_at, links_at, IsLive, Inserts, Removes, SameMap, unlinked}
 use Rattle.pairing_heap.specs.Bench.{HoldBoth}
 use Rattle.pairing_heap.specs.Heap.{times_of, key_of_value, pairs_at, Stands, Holds, Lacks, LinksOnly, AddsPair, TakesPair, RekeysPair}
-use Rattle.pairing_heap.specs.Laws.{StaysIn, StaysWithout}
+use Rattle.pairing_heap.specs.Laws.{StaysIn}
 use Rattle.pairing_heap.proofs.Counts.{one_other}
 use Rattle.pairing_heap.proofs.Rekeying.{live_held}
 use Rattle.pairing_heap.proofs.Staying.{stays, stays_elsewhere, stays_inserted, adds_slot, takes_slot, added_held, taken_lacked, rekeys_slot}

@@ -1,5 +1,5 @@
 -- The new slot is in no heap, and comes into both.
-use Rattle.std.proofs.Common.{lit<, ap, ◌∙◌, is_some, nat_lt}
+use Rattle.std.proofs.Common.{lit<, ap, is_some, nat_lt}
 use Rattle.pairing_heap.proofs.Both.{can_push_left, can_push_right, left_beside_added, holds_still, entered}
 use Rattle.pairing_heap.proofs.Staying.{added_held}
 use Rattle.pairing_heap.proofs.tests.enter.Goals as goal

@@ -1,6 +1,6 @@
 -- The slot leaves the left heap, the right one and the arena.
 use Rattle.std.proofs.Common.{lit<}
-use Rattle.pairing_heap.proofs.Both.{held_right, can_leave, left_both}
+use Rattle.pairing_heap.proofs.Both.{held_right, left_both}
 use Rattle.pairing_heap.proofs.tests.leave.Goals as goal
 
 pub remove-requires-2 : goal.remove-requires-2
