@@ -15,4 +15,3 @@ pub mod Removing
 pub mod Rekeying
 pub mod Staying
 pub mod Both
-pub mod Numbers

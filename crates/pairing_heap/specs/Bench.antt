@@ -1,9 +1,18 @@
 -- What the tests keep. No public clause cites this module.
-use Rattle.std.specs.Prelude.{ℕ, nat_lt, Option}
+use Rattle.std.specs.Prelude.{◌≡◌, ℕ, nat_lt, true, false, Option}
+use Rattle.std.proofs.Common.{le-ltb, le_antisymm, le_refl, lt-ltb, lt_trans, ltb-false, ltb-true}
 use Rattle.link_arena.specs.Arena.{Arena, IsLive}
 use Rattle.pairing_heap.specs.Heap.{Stands, Holds}
 use Rattle.pairing_heap.specs.Order.{IsStrictOrder}
-use Rattle.pairing_heap.proofs.Numbers.{less_irreflexive, less_total, less_transitive}
+
+less_irreflexive : (a : ℕ) → nat_lt a a ≡ false
+less_irreflexive a = le-ltb a a (le_refl a)
+
+less_transitive : (a b c : ℕ) → nat_lt a b ≡ true → nat_lt b c ≡ true → nat_lt a c ≡ true
+less_transitive a b c ab bc = lt-ltb a c (lt_trans (ltb-true a b ab) (ltb-true b c bc))
+
+less_total : (a b : ℕ) → nat_lt a b ≡ false → nat_lt b a ≡ false → a ≡ b
+less_total a b ab ba = le_antisymm (ltb-false b a ba) (ltb-false a b ab)
 
 -- numbers are strictly ordered
 pub number_order : IsStrictOrder nat_lt
