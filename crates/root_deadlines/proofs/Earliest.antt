@@ -9,7 +9,7 @@ use Rattle.flat_policy.specs.Windows.{due_before, earliest_of, stands_higher}
 use Rattle.root_deadlines.specs.declared.lanes.Due.{Due}
 use Rattle.root_deadlines.specs.Lanes.{AreWindowsOf, filled_among, first_of}
 use Rattle.root_deadlines.specs.Places.{place_of}
-use Rattle.root_deadlines.specs.Sooner.{found_or, sooner_of, sooner_with}
+use Rattle.root_deadlines.specs.Sooner.{sooner_of, sooner_with}
 use Rattle.root_deadlines.proofs.Least.{better_of, by_pass}
 use Rattle.root_deadlines.proofs.Ranks.{due_by_key, in_order, key, not_back}
 use Rattle.root_deadlines.proofs.Tens.{by_ten}
@@ -141,28 +141,3 @@ none_is fs ds none ws are =
     unmapped : (o : Option LaneWindow) → None ≡ option_map (λ (w : LaneWindow). w.lane) o → None ≡ o
     unmapped None h = refl
     unmapped (Some w) h = absurd cc
-
--- the highest filled lane, by the pass that the code makes
-abbrev pub highest_by_place : List Bool → Option Lane
-highest_by_place fs = fold (λ (a : Option Lane) (l : Lane). found_or (slice_index_or fs (place_of l) false) a l) None timeshare_lanes
-
-abbrev found_over : List Bool → List Lane → Option Lane → Option Lane
-found_over [] ls a = a
-found_over (f ∷ fs) [] a = a
-found_over (f ∷ fs) (l ∷ ls) a = found_over fs ls (found_or f a l)
-
-found_stays : (fs : List Bool) (ls : List Lane) (x : Lane) → found_over fs ls (Some x) ≡ Some x
-found_stays [] ls x = refl
-found_stays (f ∷ fs) [] x = refl
-found_stays (f ∷ fs) (l ∷ ls) x = found_stays fs ls x
-
-first_found : (fs : List Bool) (ls : List Lane) → found_over fs ls None ≡ first_of (filled_among fs ls)
-first_found [] ls = refl
-first_found (f ∷ fs) [] = refl
-first_found (true ∷ fs) (l ∷ ls) = found_stays fs ls l
-first_found (false ∷ fs) (l ∷ ls) = first_found fs ls
-
-pub highest_is : (fs : List Bool) → length fs ≡ 10 → highest_by_place fs ≡ first_of (filled_among fs timeshare_lanes)
-highest_is fs ten =
-    by_ten (λ gs. highest_by_place gs ≡ found_over gs timeshare_lanes None) (λ u0 u1 u2 u3 u4 u5 u6 u7 u8 u9. refl) fs ten
-    ∙ first_found fs timeshare_lanes

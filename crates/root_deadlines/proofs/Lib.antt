@@ -3,3 +3,4 @@ pub mod Tens
 pub mod Ranks
 pub mod Least
 pub mod Earliest
+pub mod Lowest

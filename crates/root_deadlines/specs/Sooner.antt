@@ -1,13 +1,6 @@
--- Which lane is the highest, and which is due first, where the lanes come in their order.
-use Rattle.std.specs.Prelude.{Bool, None, Option, Some, false, if◌then◌else◌, nat_lt, true}
-use Rattle.bucket_tables.specs.declared.Lane.{Lane}
+-- Which lane is due first, where the lanes come in their order.
+use Rattle.std.specs.Prelude.{Bool, false, if◌then◌else◌, nat_lt, true}
 use Rattle.root_deadlines.specs.declared.lanes.Due.{Due}
-
--- the lane found so far, else one more, where that counts
-abbrev pub found_or : Bool → Option Lane → Lane → Option Lane
-found_or counts (Some l) at = Some l
-found_or true None at = Some at
-found_or false None at = None
 
 -- the sooner of the one found so far and a later one; at one deadline the one found so far
 abbrev pub sooner_of : Due → Due → Due

@@ -1,8 +1,8 @@
 //! Sets of lanes, as bitmaps.
 
-ghost use Rattle.std.specs.Prelude.{◌≡◌, ◌≢◌, ◌-◌, ◌^◌, ◌↔◌, IsTrue, [], false, replicate, slice_index_or, slice_set};
+ghost use Rattle.std.specs.Prelude.{◌≡◌, ◌≢◌, ◌-◌, ◌^◌, ◌↔◌, IfSome, IsTrue, [], false, replicate, slice_get, slice_index_or, slice_set};
 ghost use Rattle.flat_policy.specs.Queue.{timeshare_lanes};
-ghost use Rattle.root_deadlines.specs.Lanes.{filled_among, higher_than};
+ghost use Rattle.root_deadlines.specs.Lanes.{filled_among, first_of, higher_than};
 ghost use Rattle.root_deadlines.specs.Places.{bound_place, place_of};
 
 use crate::places::place;
@@ -39,6 +39,23 @@ fn bits_above(bucket: Bucket) -> u16
     }
 }
 
+/// The lane at a place, from 0 on; none from 10 on.
+fn lane_at(place: u32) -> Option<Lane>
+    ensures lane { IfSome result (λ l. l.bucket ≢ Bucket.Ui) }
+    ensures at { result ≡ slice_get timeshare_lanes place }
+{
+    let bucket = match place / 2 {
+        0 => Bucket::Fg,
+        1 => Bucket::Ini,
+        2 => Bucket::Df,
+        3 => Bucket::Ut,
+        4 => Bucket::Bg,
+        _ => return None,
+    };
+    let bound = place % 2 == 0;
+    Some(Lane { bucket, bound })
+}
+
 impl LaneSet {
     /// The set of no lane.
     pub fn none() -> LaneSet
@@ -72,6 +89,15 @@ impl LaneSet {
         ensures { IsTrue result ↔ (filled_among self.now timeshare_lanes ≡ []) }
     {
         self.bits & 0x3ff == 0
+    }
+
+    /// The highest lane of the set: of the highest bucket, and in one bucket the bound one. `None`
+    /// exactly where no lane is in the set.
+    pub fn highest(&self) -> Option<Lane>
+        ensures lane { IfSome result (λ l. l.bucket ≢ Bucket.Ui) }
+        ensures highest { result ≡ first_of (filled_among self.now timeshare_lanes) }
+    {
+        lane_at(self.bits.trailing_zeros())
     }
 
     /// The lanes of the set whose bucket is higher than this one.

@@ -6,7 +6,7 @@ ghost use Rattle.flat_policy.specs.Queue.{LaneWindow, timeshare_lanes};
 ghost use Rattle.flat_policy.specs.Windows.{earliest_of};
 ghost use Rattle.root_deadlines.specs.Lanes.{AreWindowsOf, filled_among, first_of, higher_than};
 ghost use Rattle.root_deadlines.specs.Places.{place_of};
-ghost use Rattle.root_deadlines.specs.Sooner.{found_or, sooner_with};
+ghost use Rattle.root_deadlines.specs.Sooner.{sooner_with};
 
 use crate::lane_set::LaneSet;
 use crate::places::place;
@@ -114,29 +114,12 @@ impl Lanes {
         self.filled.higher_than(bucket)
     }
 
-    /// The lane found so far, else one more lane where that is filled.
-    fn or_filled(&self, found: Option<Lane>, lane: Lane) -> Option<Lane>
-        requires lane { lane.bucket ≢ Bucket.Ui }
-        requires found { ForSome found (λ l. l.bucket ≢ Bucket.Ui) }
-        ensures lane { ForSome result (λ l. l.bucket ≢ Bucket.Ui) }
-        ensures found { result ≡ found_or (slice_index_or self.now.filled (place_of lane) false) found lane }
-    {
-        if found.is_some() || !self.filled(lane) {
-            found
-        } else {
-            Some(lane)
-        }
-    }
-
-    /// The highest filled lane.
+    /// The highest filled lane: of the highest bucket, and in one bucket the bound one.
     fn highest(&self) -> Option<Lane>
         ensures lane { ForSome result (λ l. l.bucket ≢ Bucket.Ui) }
         ensures highest { result ≡ first_of (filled_among self.now.filled timeshare_lanes) }
     {
-        let _ = &self.filled;
-        let mut found = None;
-        each_lane!(lane => found = self.or_filled(found, lane));
-        found
+        self.filled.highest()
     }
 
     /// The sooner of the lane found so far and one more, where that is filled. The lanes come in
