@@ -1,13 +1,13 @@
--- The lowest set bit of a bitmap is the place of its highest lane.
-use Rattle.std.proofs.Common.{◌≡◌, ℕ, zero, suc, ◌<◌, ◌≤◌, ◌^◌, ◌%◌, ◌/◌, ◌==◌, Bool, List, [], ◌∷◌, length, refl, sym, ap, ◌∙◌, arith}
-use Rattle.std.specs.Prelude.{slice_get}
+-- The lowest set bit of a bitmap is the place of its highest lane, and what is left without it.
+use Rattle.std.proofs.Common.{◌≡◌, ℕ, zero, suc, ◌+◌, ◌<◌, ◌≤◌, ◌^◌, ◌%◌, ◌/◌, ◌==◌, Bool, false, List, min, [], ◌∷◌, length, refl, sym, ap, ◌∙◌, arith}
+use Rattle.std.specs.Prelude.{bit_and, slice_get}
 use Rattle.std.specs.Int.{bit_at}
 use Rattle.std.proofs.lemmas.Nat.{shr-shr}
-use Rattle.std.proofs.lemmas.Nat.Bits.{bit_at-lt}
+use Rattle.std.proofs.lemmas.Nat.Bits.{bit_at-lt, bit_at_and}
 use lib.Count.{count_trailing_zeros, under}
 use Rattle.flat_policy.specs.Queue.{timeshare_lanes}
 use Rattle.root_deadlines.specs.Bits.{flag_at, flags_of}
-use Rattle.root_deadlines.specs.Lanes.{filled_among, first_of}
+use Rattle.root_deadlines.specs.Lanes.{behind_first, filled_among, first_of}
 
 -- the flags of so many places, from one on
 abbrev flags_from : ℕ → ℕ → ℕ → List Bool
@@ -41,3 +41,69 @@ lowest_is n =
   where
     whole : (m : ℕ) → m ≡ m / 2 ^ 0
     whole m = omega arith
+
+halved : (n i : ℕ) → n / 2 ^ i / 2 ≡ n / 2 ^ suc i
+halved n i = shr-shr n i 1 ∙ ap (λ j. n / 2 ^ j) (omega arith)
+
+-- the flags that two numbers share, from one place on
+abbrev shared_from : ℕ → ℕ → ℕ → ℕ → List Bool
+shared_from n k i zero = []
+shared_from n k i (suc m) = (min (bit_at n i) (bit_at k i) == 1) ∷ shared_from n k (suc i) m
+
+same_stay : (n k i m : ℕ) → k / 2 ^ i ≡ n / 2 ^ i → shared_from n k i m ≡ flags_from n i m
+same_stay n k i zero same = refl
+same_stay n k i (suc m) same =
+    let here : bit_at k i ≡ bit_at n i = ap (λ q. q % 2) same in
+    let next : k / 2 ^ suc i ≡ n / 2 ^ suc i = sym (halved k i) ∙ ap (λ q. q / 2) same ∙ halved n i in
+    let both : min (bit_at n i) (bit_at k i) ≡ bit_at n i = omega (arith, here) in
+    ap (λ b. (b == 1) ∷ shared_from n k (suc i) m) both
+    ∙ ap (λ fs. flag_at n i ∷ fs) (same_stay n k (suc i) m next)
+
+-- one less: the digit at the lowest set bit is gone, and those above it stay
+odd_less : (a b : ℕ) → b + 1 ≡ a → a % 2 ≡ 1 → (b % 2 ≡ 0) × (b / 2 ≡ a / 2)
+odd_less a b less odd = (omega (arith, less, odd), omega (arith, less, odd))
+
+even_less : (a b : ℕ) → b + 1 ≡ a → a % 2 ≡ 0 → b / 2 + 1 ≡ a / 2
+even_less a b less even = omega (arith, less, even)
+
+by_less : (d e : ℕ) (tail rest : List Bool) → d < 2 → (d ≡ 1 → (e ≡ 0) × (tail ≡ rest)) → (d ≡ 0 → tail ≡ behind_first rest)
+    → (min d e == 1) ∷ tail ≡ behind_first ((d == 1) ∷ rest)
+by_less zero e tail rest small odd even =
+    let none : min 0 e ≡ 0 = omega arith in
+    ap (λ b. (b == 1) ∷ tail) none ∙ ap (λ fs. false ∷ fs) (even refl)
+by_less (suc zero) e tail rest small odd even =
+    let both = odd refl in
+    let none : min 1 e ≡ 0 = omega (arith, both.0) in
+    ap (λ b. (b == 1) ∷ tail) none ∙ ap (λ fs. false ∷ fs) both.1
+by_less (suc (suc d)) e tail rest small odd even = absurd (omega (arith, small))
+
+one_less : (n k i m : ℕ) → k / 2 ^ i + 1 ≡ n / 2 ^ i → shared_from n k i m ≡ behind_first (flags_from n i m)
+one_less n k i zero less = refl
+one_less n k i (suc m) less =
+    by_less (bit_at n i) (bit_at k i) (shared_from n k (suc i) m) (flags_from n (suc i) m) (bit_at-lt n i)
+    (λ odd. (let parts = odd_less (n / 2 ^ i) (k / 2 ^ i) less odd in
+    (parts.0, same_stay n k (suc i) m (sym (halved k i) ∙ parts.1 ∙ halved n i))))
+    (λ even. one_less n k (suc i) m (ap (λ q. q + 1) (sym (halved k i)) ∙ even_less (n / 2 ^ i) (k / 2 ^ i) less even ∙ halved n i))
+
+shared_is : (n k : ℕ) → flags_of (bit_and n k) ≡ shared_from n k 0 10
+shared_is n k =
+    rw (
+      bit_at_and n k 0,
+      bit_at_and n k 1,
+      bit_at_and n k 2,
+      bit_at_and n k 3,
+      bit_at_and n k 4,
+      bit_at_and n k 5,
+      bit_at_and n k 6,
+      bit_at_and n k 7,
+      bit_at_and n k 8,
+      bit_at_and n k 9,
+    ) refl
+
+-- a number below the width of a bitmap, without its lowest set bit
+pub behind_is : (n : ℕ) → n < 65536 → flags_of (bit_and n ((n + 65535) % 65536)) ≡ behind_first (flags_of n)
+behind_is zero small = refl
+behind_is (suc k) small =
+    let less : (suc k + 65535) % 65536 ≡ k = omega (arith, small) in
+    let lower : k / 2 ^ 0 + 1 ≡ suc k / 2 ^ 0 = omega arith in
+    ap (λ l. flags_of (bit_and (suc k) l)) less ∙ shared_is (suc k) k ∙ one_less (suc k) k 0 10 lower

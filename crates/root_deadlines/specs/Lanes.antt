@@ -27,6 +27,12 @@ abbrev pub first_of : {X : Type 0} → List X → Option X
 first_of [] = None
 first_of (x ∷ xs) = Some x
 
+-- the flags without the first that is set
+abbrev pub behind_first : List Bool → List Bool
+behind_first [] = []
+behind_first (true ∷ fs) = false ∷ fs
+behind_first (false ∷ fs) = false ∷ behind_first fs
+
 -- the flags of those lanes whose bucket is higher than this one
 abbrev pub higher_than : Bucket → List Lane → List Bool → List Bool
 higher_than b [] fs = []

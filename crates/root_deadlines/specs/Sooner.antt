@@ -1,6 +1,13 @@
 -- Which lane is due first, where the lanes come in their order.
-use Rattle.std.specs.Prelude.{Bool, false, if◌then◌else◌, nat_lt, true}
+use Rattle.std.specs.Prelude.{Bool, List, false, fold, if◌then◌else◌, nat_lt, slice_index, slice_index_or, true, ℕ}
+use Rattle.bucket_tables.specs.declared.Lane.{Lane}
+use Rattle.flat_policy.specs.Queue.{timeshare_lanes}
 use Rattle.root_deadlines.specs.declared.lanes.Due.{Due}
+use Rattle.root_deadlines.specs.Places.{place_of}
+
+-- the place and the deadline of a lane
+abbrev pub due_at : List ℕ → Lane → Due
+due_at ds l = record { place = place_of l; deadline = slice_index ds (place_of l) }
 
 -- the sooner of the one found so far and a later one; at one deadline the one found so far
 abbrev pub sooner_of : Due → Due → Due
@@ -10,3 +17,7 @@ sooner_of x y = if nat_lt y.deadline x.deadline then y else x
 abbrev pub sooner_with : Bool → Due → Due → Due
 sooner_with true found y = sooner_of found y
 sooner_with false found y = found
+
+-- the soonest of the one found so far and those of the ten lanes that count
+abbrev pub passed : List Bool → List ℕ → Due → Due
+passed fs ds first = fold (λ (a : Due) (l : Lane). sooner_with (slice_index_or fs (place_of l) false) a (due_at ds l)) first timeshare_lanes

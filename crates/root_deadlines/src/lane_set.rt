@@ -1,8 +1,9 @@
 //! Sets of lanes, as bitmaps.
 
-ghost use Rattle.std.specs.Prelude.{◌≡◌, ◌≢◌, ◌-◌, ◌^◌, ◌↔◌, IfSome, IsTrue, [], false, replicate, slice_get, slice_index_or, slice_set};
+ghost use Rattle.std.specs.Option.{option_and_then};
+ghost use Rattle.std.specs.Prelude.{◌≡◌, ◌≢◌, ◌-◌, ◌<◌, ◌^◌, ◌↔◌, IfSome, IsTrue, [], false, replicate, slice_get, slice_index_or, slice_set};
 ghost use Rattle.flat_policy.specs.Queue.{timeshare_lanes};
-ghost use Rattle.root_deadlines.specs.Lanes.{filled_among, first_of, higher_than};
+ghost use Rattle.root_deadlines.specs.Lanes.{behind_first, filled_among, first_of, higher_than};
 ghost use Rattle.root_deadlines.specs.Places.{bound_place, place_of};
 
 use crate::places::place;
@@ -37,23 +38,6 @@ fn bits_above(bucket: Bucket) -> u16
         Bucket::Ut => 0b11_1111,
         Bucket::Bg => 0b1111_1111,
     }
-}
-
-/// The lane at a place, from 0 on; none from 10 on.
-fn lane_at(place: u32) -> Option<Lane>
-    ensures lane { IfSome result (λ l. l.bucket ≢ Bucket.Ui) }
-    ensures at { result ≡ slice_get timeshare_lanes place }
-{
-    let bucket = match place / 2 {
-        0 => Bucket::Fg,
-        1 => Bucket::Ini,
-        2 => Bucket::Df,
-        3 => Bucket::Ut,
-        4 => Bucket::Bg,
-        _ => return None,
-    };
-    let bound = place % 2 == 0;
-    Some(Lane { bucket, bound })
 }
 
 impl LaneSet {
@@ -91,13 +75,23 @@ impl LaneSet {
         self.bits & 0x3ff == 0
     }
 
-    /// The highest lane of the set: of the highest bucket, and in one bucket the bound one. `None`
-    /// exactly where no lane is in the set.
-    pub fn highest(&self) -> Option<Lane>
-        ensures lane { IfSome result (λ l. l.bucket ≢ Bucket.Ui) }
-        ensures highest { result ≡ first_of (filled_among self.now timeshare_lanes) }
+    /// The place of the highest lane of the set. `None` exactly where no lane is in the set.
+    pub fn highest_place(&self) -> Option<usize>
+        ensures small { IfSome result (λ p. p < 10) }
+        ensures highest { option_and_then (slice_get timeshare_lanes) result
+            ≡ first_of (filled_among self.now timeshare_lanes) }
     {
-        lane_at(self.bits.trailing_zeros())
+        let place = self.bits.trailing_zeros() as usize;
+        if place < 10 { Some(place) } else { None }
+    }
+
+    /// The set without its highest lane. Where no lane is in the set, none is in the result.
+    pub fn behind_highest(&self) -> LaneSet
+        ensures { result ≡ behind_first self.now }
+    {
+        LaneSet {
+            bits: self.bits & self.bits.wrapping_sub(1),
+        }
     }
 
     /// The lanes of the set whose bucket is higher than this one.

@@ -1,15 +1,14 @@
 //! Which lanes are filled, and their deadlines.
 
-ghost use Rattle.std.specs.Prelude.{◌≡◌, ◌≢◌, ◌↔◌, IfSome, IsNone, IsTrue, List, [], false, map, option_map, replicate, slice_index, slice_index_or, slice_set, true};
-ghost use Rattle.std.specs.Option.{ForSome};
+ghost use Rattle.std.specs.Prelude.{◌≡◌, ◌≢◌, ◌<◌, ◌↔◌, IfSome, IsNone, IsTrue, List, [], false, length, map, option_map, replicate, slice_index, slice_index_or, slice_set, true};
 ghost use Rattle.flat_policy.specs.Queue.{LaneWindow, timeshare_lanes};
 ghost use Rattle.flat_policy.specs.Windows.{earliest_of};
-ghost use Rattle.root_deadlines.specs.Lanes.{AreWindowsOf, filled_among, first_of, higher_than};
+ghost use Rattle.root_deadlines.specs.Lanes.{AreWindowsOf, filled_among, higher_than};
 ghost use Rattle.root_deadlines.specs.Places.{place_of};
-ghost use Rattle.root_deadlines.specs.Sooner.{sooner_with};
+ghost use Rattle.root_deadlines.specs.Sooner.{due_at, passed, sooner_of, sooner_with};
 
 use crate::lane_set::LaneSet;
-use crate::places::place;
+use crate::places::{lane_at, place};
 use bucket_tables::{Lane, each_lane};
 use sched_base::Bucket;
 use std::marker::Model;
@@ -34,11 +33,22 @@ impl Model for Lanes {
     ghost invariant = { λ lanes. AreTen lanes.filled lanes.deadlines };
 }
 
-/// A filled lane and its deadline.
+/// The place of a filled lane, and its deadline.
 #[derive(Clone, Copy, Drop)]
 struct Due {
-    lane: Lane,
+    place: usize,
     deadline: u64,
+}
+
+/// The sooner of the lane found so far and a later one. At one deadline it is the one found so far.
+fn sooner_of(first: Due, next: Due) -> Due
+    ensures { result ≡ sooner_of first next }
+{
+    if next.deadline < first.deadline {
+        next
+    } else {
+        first
+    }
 }
 
 impl Lanes {
@@ -114,32 +124,57 @@ impl Lanes {
         self.filled.higher_than(bucket)
     }
 
-    /// The highest filled lane: of the highest bucket, and in one bucket the bound one.
-    fn highest(&self) -> Option<Lane>
-        ensures lane { ForSome result (λ l. l.bucket ≢ Bucket.Ui) }
-        ensures highest { result ≡ first_of (filled_among self.now.filled timeshare_lanes) }
+    /// The lane that is due first of one found so far and some filled lanes after it. Where there
+    /// is one such lane, no other is looked at.
+    fn sooner_among(&self, first: Due, rest: &LaneSet) -> Due
+        requires small { first.place < 10 }
+        requires ten { length rest.now ≡ 10 }
+        ensures small { result.place < 10 }
+        ensures sooner { result ≡ passed rest.now self.now.deadlines first }
     {
-        self.filled.highest()
+        let Some(place) = rest.highest_place() else {
+            return first;
+        };
+        let next = Due {
+            place,
+            deadline: self.deadlines[place],
+        };
+        let sooner = sooner_of(first, next);
+        let others = rest.behind_highest();
+        if others.is_empty() {
+            return sooner;
+        }
+        self.sooner_by_lane(sooner, &others)
     }
 
-    /// The sooner of the lane found so far and one more, where that is filled. The lanes come in
-    /// their order, so at one deadline the one found so far is first.
-    fn sooner(&self, first: Due, lane: Lane) -> Due
-        requires lane { lane.bucket ≢ Bucket.Ui }
-        requires found { first.lane.bucket ≢ Bucket.Ui }
-        ensures lane { result.lane.bucket ≢ Bucket.Ui }
-        ensures sooner { result ≡ sooner_with (slice_index_or self.now.filled (place_of lane) false) first
-            (record { lane = lane; deadline = slice_index self.now.deadlines (place_of lane) }) }
+    /// The same, by a look at each lane.
+    fn sooner_by_lane(&self, mut first: Due, rest: &LaneSet) -> Due
+        requires { first.place < 10 }
+        ensures small { result.place < 10 }
+        ensures sooner { result ≡ passed rest.now self.now.deadlines first }
     {
-        if !self.filled(lane) {
+        let _ = &self.filled;
+        each_lane!(lane => first = self.sooner(first, rest, lane));
+        first
+    }
+
+    /// The sooner of the lane found so far and one more, where that is in a set. The lanes come in
+    /// their order, so at one deadline the one found so far is first.
+    fn sooner(&self, first: Due, set: &LaneSet, lane: Lane) -> Due
+        requires lane { lane.bucket ≢ Bucket.Ui }
+        requires small { first.place < 10 }
+        ensures small { result.place < 10 }
+        ensures sooner { result ≡ sooner_with (slice_index_or set.now (place_of lane) false) first
+            (due_at self.now.deadlines lane) }
+    {
+        if !set.contains(lane) {
             return first;
         }
-        let deadline = self.deadline(lane);
-        if deadline < first.deadline {
-            Due { lane, deadline }
-        } else {
-            first
-        }
+        let next = Due {
+            place: place(lane),
+            deadline: self.deadline(lane),
+        };
+        sooner_of(first, next)
     }
 
     /// The filled lane that is due first: by deadline, then bucket index, then bound first.
@@ -153,15 +188,15 @@ impl Lanes {
         ensures first { (windows : List LaneWindow) → AreWindowsOf self.now windows
             → result ≡ option_map (λ (e : LaneWindow). e.lane) (earliest_of (filled_among self.now.filled windows)) }
     {
-        let _ = &self.filled;
-        let Some(highest) = self.highest() else {
-            return None;
+        let place = self.filled.highest_place()?;
+        let rest = self.filled.behind_highest();
+        if rest.is_empty() {
+            return Some(lane_at(place));
+        }
+        let highest = Due {
+            place,
+            deadline: self.deadlines[place],
         };
-        let mut first = Due {
-            lane: highest,
-            deadline: self.deadline(highest),
-        };
-        each_lane!(lane => first = self.sooner(first, lane));
-        Some(first.lane)
+        Some(lane_at(self.sooner_among(highest, &rest).place))
     }
 }

@@ -10,7 +10,7 @@ pub mod places;
 pub use bucket_tables::Lane;
 pub use lane_set::LaneSet;
 pub use lanes::Lanes;
-pub use places::place;
+pub use places::{lane_at, place};
 
 #[cfg(test)]
 mod tests;

@@ -43,6 +43,7 @@ fn each_lane_has_a_place(rt: HostRuntime) {
     let mut expected = 0;
     bucket_tables::each_lane!(lane => {
         assert_eq!(rt; place(lane), expected);
+        assert_eq!(rt; lane_at(place(lane)), lane);
         expected += 1;
     });
 }
