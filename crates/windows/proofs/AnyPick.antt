@@ -1,5 +1,5 @@
 -- In any queue, well-formed or not, a lane with entries has one that no other goes before.
-use Rattle.std.proofs.Common.{◌≡◌, Bool, true, false, Contains, Option, Some, refl, ◌∙◌, sym, ap, inl, inr}
+use Rattle.std.proofs.Common.{◌≡◌, Bool, true, false, Contains, Some, ◌∙◌, sym, inl, inr}
 use Rattle.std.proofs.lemmas.Bool.{cases_Bool}
 use Rattle.bucket_tables.specs.declared.Lane.{Lane}
 use Rattle.flat_policy.specs.Moves.{goes_before, pick_in}

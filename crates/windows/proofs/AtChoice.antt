@@ -9,7 +9,7 @@ use Rattle.flat_policy.specs.declared.lanes.Kind.TheVariants.{Natural, Pass, Sta
 use Rattle.flat_policy.specs.declared.setup.Times.{Times}
 use Rattle.flat_policy.specs.Queue.{Flat, LaneWindow, has_entries, same_lane}
 use Rattle.flat_policy.specs.WindowLaws.{kind_at}
-use Rattle.flat_policy.specs.Windows.{Choice, above_ui, choice_against, chosen, chosen_behind, chosen_of, chosen_under, earliest_of, filled_lanes, higher_of, may_pass, passing_of, some_higher, stands_higher, window_after}
+use Rattle.flat_policy.specs.Windows.{Choice, above_ui, choice_against, chosen, chosen_behind, chosen_under, earliest_of, filled_lanes, higher_of, may_pass, passing_of, some_higher, stands_higher, window_after}
 use Rattle.flat_policy.proofs.Buckets.{same_lane_is}
 use Rattle.flat_policy.proofs.Choice.{is_unpreceded}
 use Rattle.flat_policy.proofs.KeptLanes.{window_keeps}

@@ -1,5 +1,5 @@
 -- Facts of the windows of one lane, in the lists of windows that steps make.
-use Rattle.std.proofs.Common.{◌≡◌, Bool, true, false, Contains, List, [], ◌∷◌, map, cond, refl, sym, ap, ◌∙◌, subst, inl, inr}
+use Rattle.std.proofs.Common.{◌≡◌, true, Contains, List, [], ◌∷◌, map, cond, refl, sym, ap, ◌∙◌, subst, inl, inr}
 use Rattle.std.proofs.lemmas.Bool.{cases_Bool, cond_both, false≢true}
 use Rattle.bucket_tables.specs.declared.Lane.{Lane}
 use Rattle.flat_policy.specs.Queue.{LaneWindow, same_lane}

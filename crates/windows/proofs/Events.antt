@@ -1,5 +1,5 @@
 -- What each line of a cluster does to the windows of its lanes.
-use Rattle.std.proofs.Common.{◌≡◌, ℕ, ◌==◌, Bool, true, false, not, ◌||◌, cond, Contains, List, map, Option, Some, None, is_some, option_and_then, refl, sym, ap, ◌∙◌, subst}
+use Rattle.std.proofs.Common.{◌≡◌, ℕ, ◌==◌, Bool, true, false, not, ◌||◌, cond, List, Option, Some, None, is_some, option_and_then, refl, sym, ap, ◌∙◌, subst}
 use Rattle.std.proofs.lemmas.Bool.{cond_both}
 use Rattle.sched_base.specs.declared.Act.{Act}
 use Rattle.sched_base.specs.declared.Facts.{Facts}

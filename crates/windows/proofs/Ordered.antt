@@ -1,12 +1,12 @@
 -- Lanes in their order: the first of them is the one that none stands higher than.
-use Rattle.std.proofs.Common.{◌≡◌, Bool, true, false, not, cond, List, [], ◌∷◌, map, filter, find, Option, None, Some, refl, sym, ap, ◌∙◌, arith}
+use Rattle.std.proofs.Common.{◌≡◌, Bool, true, false, not, cond, List, [], ◌∷◌, map, filter, find, Some, refl, sym, ap, ◌∙◌, arith}
 use Rattle.std.specs.List.{list_all, list_any}
 use Rattle.std.proofs.lemmas.Bool.{and_from, and_parts, le-ltb, or_from}
 use Rattle.bucket_tables.specs.declared.Lane.{Lane}
 use Rattle.flat_policy.specs.Queue.{LaneWindow}
 use Rattle.flat_policy.specs.Unpreceded.{unpreceded}
 use Rattle.flat_policy.specs.Windows.{stands_higher}
-use Rattle.root_deadlines.specs.Lanes.{filled_among}
+use Rattle.root_deadlines.specs.Lanes.{filled_among, first_of}
 use Rattle.root_deadlines.proofs.Ranks.{higher_by_rank, in_order, not_back, rank}
 
 abbrev pub lanes_of : List LaneWindow → List Lane
@@ -76,10 +76,6 @@ none_higher x [] h = refl
 none_higher x (w ∷ ws) h =
     let parts = and_parts (stands_higher x.lane w.lane) (list_all (stands_higher x.lane) (lanes_of ws)) h in
     or_from (stands_higher w.lane x.lane) (list_any (λ (y : LaneWindow). stands_higher y.lane x.lane) ws) (not_back x.lane w.lane parts.0) (none_higher x ws parts.1)
-
-abbrev pub first_of : List LaneWindow → Option LaneWindow
-first_of [] = None
-first_of (w ∷ ws) = Some w
 
 -- of lanes in order, the highest is the first
 pub highest_is_first : (ws : List LaneWindow) → in_order (lanes_of ws) ≡ true

@@ -6,10 +6,10 @@ use Rattle.bucket_tables.specs.declared.Lane.{Lane}
 use Rattle.flat_policy.specs.declared.setup.Times.{Times}
 use Rattle.flat_policy.specs.Queue.{LaneWindow, timeshare_lanes}
 use Rattle.flat_policy.specs.Windows.{may_pass}
-use Rattle.root_deadlines.specs.Lanes.{filled_among, higher_than}
+use Rattle.root_deadlines.specs.Lanes.{filled_among, first_of, higher_than}
 use Rattle.root_deadlines.proofs.Tens.{by_ten}
 use Rattle.windows.specs.Passing.{passing_with}
-use Rattle.windows.proofs.Ordered.{first_of, lanes_of}
+use Rattle.windows.proofs.Ordered.{lanes_of}
 
 -- the pass over flags and windows, beside each other
 abbrev pub passing_over : List Times → List Bool → List LaneWindow → Option Lane → Option Lane

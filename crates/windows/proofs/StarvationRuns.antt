@@ -1,9 +1,7 @@
 -- The starvation law: what the starvation window of a lane is in every run, and so how long it lasts.
-use Rattle.std.proofs.Common.{◌≡◌, ℕ, ◌+◌, ◌<◌, ◌≤◌, nat_le, Bool, true, false, cond, Contains, List, [], ◌∷◌, find, map, Option, Some, None, refl, sym, ap, ◌∙◌, subst, inl, inr, arith}
-use Rattle.std.specs.List.{list_any}
+use Rattle.std.proofs.Common.{◌≡◌, ℕ, ◌+◌, ◌<◌, nat_le, Bool, true, false, cond, Contains, List, [], ◌∷◌, Option, Some, None, refl, sym, ap, ◌∙◌, subst, inl, inr, arith}
 use Rattle.std.specs.Option.{option_map_or}
-use Rattle.std.specs.Prelude.{IsTrue}
-use Rattle.std.proofs.lemmas.Bool.{cases_Bool, cond_both, le-leb, leb-false}
+use Rattle.std.proofs.lemmas.Bool.{cases_Bool, le-leb, leb-false}
 use Rattle.bucket_tables.specs.declared.Lane.{Lane}
 use Rattle.flat_policy.specs.declared.journal.Line.{Line}
 use Rattle.flat_policy.specs.declared.lanes.Kind.{Kind}
@@ -14,7 +12,7 @@ use Rattle.flat_policy.specs.declared.setup.Times.{Times}
 use Rattle.flat_policy.specs.Places.{act_of, flat_after}
 use Rattle.flat_policy.specs.Queue.{Flat, LaneWindow, empty_flat, same_lane, timeshare_lanes}
 use Rattle.flat_policy.specs.Setup.{SetupParts, cluster_times, group_count, times_for}
-use Rattle.flat_policy.specs.WindowLaws.{EventKeepsWindow, HasQuanta, IsTimeshare, RenewsInTime, StarvationLaw, StarveIsWithin, WindowEvent, WindowKept, first_starve_after, first_starve_by, kind_at, lane_fills, no_event, select_at, unless_renewed, window_ends, window_event, window_of}
+use Rattle.flat_policy.specs.WindowLaws.{EventKeepsWindow, IsTimeshare, RenewsInTime, StarvationLaw, StarveIsWithin, WindowEvent, WindowKept, first_starve_after, first_starve_by, kind_at, lane_fills, no_event, select_at, unless_renewed, window_ends, window_event, window_of}
 use Rattle.flat_policy.specs.Windows.{at_lane, chosen, expired, expired_warp, expired_window, opened_window, renewed_deadline, window_over}
 use Rattle.flat_policy.proofs.Buckets.{same_lane_is, same_lane_itself}
 use Rattle.flat_policy.proofs.Chosen.{member_of_map}

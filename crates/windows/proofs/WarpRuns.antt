@@ -1,6 +1,6 @@
 -- The warp law: what the warp of a lane is in every run, and so how long the lane may pass.
-use Rattle.std.proofs.Common.{◌≡◌, ◌⊎◌, ℕ, ◌+◌, ◌<◌, ◌==◌, nat_le, Bool, true, false, not, ◌&&◌, cond, List, [], ◌∷◌, map, Option, Some, None, refl, sym, ap, ◌∙◌, subst, inl, inr, arith, eq-eqb}
-use Rattle.std.proofs.lemmas.Bool.{and_parts, cases_Bool, cond_both, cond-true, cond-false, false≢true, leb-false, not_from_true}
+use Rattle.std.proofs.Common.{◌≡◌, ◌⊎◌, ℕ, ◌+◌, ◌<◌, ◌==◌, nat_le, true, not, List, [], ◌∷◌, Option, Some, None, refl, sym, ap, ◌∙◌, subst, inl, inr, arith}
+use Rattle.std.proofs.lemmas.Bool.{and_parts, cases_Bool, cond_both, cond-true, cond-false, false≢true, leb-false}
 use Rattle.bucket_tables.specs.declared.Lane.{Lane}
 use Rattle.flat_policy.specs.declared.journal.Line.{Line}
 use Rattle.flat_policy.specs.declared.lanes.Kind.{Kind}
@@ -11,13 +11,13 @@ use Rattle.flat_policy.specs.declared.setup.Times.{Times}
 use Rattle.flat_policy.specs.Places.{act_of, flat_after}
 use Rattle.flat_policy.specs.Queue.{Flat, LaneWindow, empty_flat, same_lane}
 use Rattle.flat_policy.specs.Setup.{SetupParts, cluster_times, group_count, times_for}
-use Rattle.flat_policy.specs.WindowLaws.{EventKeepsWarp, PassIsWithin, WarpKept, WarpLaw, WindowEvent, chosen_kind, first_pass_after, first_pass_by, kind_at, lane_fills, no_event, select_at, window_event}
+use Rattle.flat_policy.specs.WindowLaws.{EventKeepsWarp, PassIsWithin, WarpKept, WarpLaw, WindowEvent, first_pass_after, first_pass_by, kind_at, lane_fills, no_event, select_at, window_event}
 use Rattle.flat_policy.specs.Windows.{at_lane, begun_warp, chosen, expired, expired_warp, expired_window, may_pass, renewed_deadline, unspent, window_over}
 use Rattle.flat_policy.proofs.Buckets.{same_lane_is}
 use Rattle.flat_policy.proofs.KeptLanes.{expired_keeps}
 use Rattle.windows.proofs.AtLane.{AtLane, at_changed, at_map, at_member}
-use Rattle.windows.proofs.AtChoice.{at_choice, at_each, passes}
-use Rattle.windows.proofs.Events.{HasTenLanes, LanesBy, after_kind, lanes_by, lanes_chosen, selected_lanes, ten_by}
+use Rattle.windows.proofs.AtChoice.{at_choice, passes}
+use Rattle.windows.proofs.Events.{HasTenLanes, LanesBy, after_kind, lanes_by, selected_lanes, ten_by}
 
 -- the warp of a lane by the first Pass since the last Natural choice: unused before it, and from it on it runs or is spent
 abbrev WarpFits : ℕ → Option ℕ → Warp → Type 0

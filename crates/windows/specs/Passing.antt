@@ -1,4 +1,4 @@
--- Which lane of some may pass an earlier deadline.
+-- Which lane of some may pass an earlier deadline. No public clause cites this module.
 use Rattle.std.specs.Prelude.{Bool, List, None, Option, Some, false, if◌then◌else◌, true}
 use Rattle.bucket_tables.specs.declared.Lane.{Lane}
 use Rattle.flat_policy.specs.declared.setup.Times.{Times}
