@@ -3,8 +3,8 @@ use Rattle.std.proofs.Common.{◌≡◌, ℕ, ◌<◌, max, nat_le, Bool, true, 
 use Rattle.std.proofs.lemmas.Bool.{le-leb, lt-leb}
 use Rattle.sched_base.specs.declared.buckets.Bucket.TheVariants.{Fg, Ui}
 use Rattle.bucket_tables.specs.declared.Lane.{Lane}
-use Rattle.flat_policy.specs.Queue.{Flat, has_entries, lane}
-use Rattle.flat_policy.specs.Windows.{above_ui, lane_priority}
+use Rattle.flat_policy.specs.Policy.Queue.{Flat, has_entries, lane}
+use Rattle.flat_policy.specs.Policy.Windows.{above_ui, lane_priority}
 use Rattle.bound_buckets.specs.Tops.{above_ui_of, at_least, greater_of, top_of, tops_of}
 use Rattle.bound_buckets.proofs.LanePriorities.{empty_is_zero, ui_has_sixteen}
 

@@ -7,10 +7,10 @@ use Rattle.sched_base.specs.declared.buckets.Bucket.{Bucket}
 use Rattle.sched_base.specs.declared.buckets.Bucket.TheVariants.{Bg, Df, Fg, Ini, Ui, Ut}
 use Rattle.sched_base.specs.declared.facts.Facts.{Facts}
 use Rattle.bucket_tables.specs.declared.Lane.{Lane}
-use Rattle.flat_policy.specs.Precedence.{bound_priority, clutch_priority, greatest, unit_priority}
-use Rattle.flat_policy.specs.Queue.{Flat, Queued, clutch_of, has_entries, in_lane, lane, same_bucket, same_flag, spans_of}
-use Rattle.flat_policy.specs.Usage.{bound_score, score}
-use Rattle.flat_policy.specs.Windows.{lane_priority}
+use Rattle.flat_policy.specs.Policy.Precedence.{bound_priority, clutch_priority, greatest, unit_priority}
+use Rattle.flat_policy.specs.Policy.Queue.{Flat, Queued, clutch_of, has_entries, in_lane, lane, same_bucket, same_flag, spans_of}
+use Rattle.flat_policy.specs.Policy.Usage.{bound_score, score}
+use Rattle.flat_policy.specs.Policy.Windows.{lane_priority}
 
 none_pass : {X : Type 0} (p : X → Bool) (xs : List X) → list_any p xs ≡ false → filter p xs ≡ []
 none_pass p [] h = refl

@@ -2,8 +2,8 @@
 use Rattle.std.specs.Prelude.{Bool, None, Option, Some, false, if◌then◌else◌, max, nat_le, true, ℕ}
 use Rattle.sched_base.specs.declared.buckets.Bucket.TheVariants.{Fg, Ui}
 use Rattle.bucket_tables.specs.declared.Lane.{Lane}
-use Rattle.flat_policy.specs.Queue.{Flat, has_entries, lane}
-use Rattle.flat_policy.specs.Windows.{lane_priority}
+use Rattle.flat_policy.specs.Policy.Queue.{Flat, has_entries, lane}
+use Rattle.flat_policy.specs.Policy.Windows.{lane_priority}
 use Rattle.bound_buckets.specs.declared.Tops.{Tops}
 
 -- the greatest unit priority of a lane; none where it has no entries

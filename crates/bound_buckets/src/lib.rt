@@ -5,9 +5,9 @@
 
 ghost use Rattle.std.specs.Prelude.{◌≡◌, option_map};
 ghost use Rattle.sched_base.specs.declared.buckets.Bucket.TheVariants.{Ui};
-ghost use Rattle.flat_policy.specs.Queue.{Flat, lane};
-ghost use Rattle.flat_policy.specs.Usage.{bound_score};
-ghost use Rattle.flat_policy.specs.Windows.{above_ui};
+ghost use Rattle.flat_policy.specs.Policy.Queue.{Flat, lane};
+ghost use Rattle.flat_policy.specs.Policy.Usage.{bound_score};
+ghost use Rattle.flat_policy.specs.Policy.Windows.{above_ui};
 ghost use Rattle.bound_buckets.specs.Tops.{above_ui_of, at_least, greater_of, tops_of};
 
 pub use sched_base::Bucket;

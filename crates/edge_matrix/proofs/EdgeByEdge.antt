@@ -3,7 +3,7 @@ use Rattle.std.proofs.Common.{sym, drop, slice_get, zero, suc, ◌+◌, ◌≡�
 use Rattle.std.specs.Option.{option_map_or}
 use Rattle.std.proofs.lemmas.Bool.Decides.{nat_tests}
 use Rattle.flat_policy.specs.declared.setup.EdgeSpec.{EdgeSpec}
-use Rattle.flat_policy.specs.Setup.{SetupParts}
+use Rattle.flat_policy.specs.Policy.Setup.{SetupParts}
 use Rattle.edge_matrix.specs.EdgeTables.{EdgeTables, edges_of, no_edges, table_of, with_edge, with_number}
 use Rattle.edge_matrix.proofs.Tables.{table_of-but_one, table_of-zero}
 

@@ -1,6 +1,6 @@
 -- Lists of what a function makes of the numbers from one on.
 use Rattle.std.proofs.Common.{◌≡◌, ◌≢◌, ◌≤◌, ◌<◌, ◌+◌, ℕ, zero, suc, List, ◌∷◌, map, get_or, set, refl, ap, arith, ◌∙◌}
-use Rattle.flat_policy.specs.Setup.{numbers_from}
+use Rattle.flat_policy.specs.Policy.Setup.{numbers_from}
 
 -- each by its place
 pub get_or-map_numbers : {A : Type 0} (f : ℕ → A) (first n k : ℕ) (d : A) → k < n → get_or (map f (numbers_from first n)) k d ≡ f (first + k)

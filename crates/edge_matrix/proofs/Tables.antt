@@ -3,7 +3,7 @@ use Rattle.std.proofs.Common.{◌≡◌, ◌≢◌, ◌≤◌, ◌<◌, ◌+◌,
 use Rattle.std.proofs.lemmas.Grind.{common_steps}
 use Rattle.std.proofs.lemmas.Bool.Decides.{nat_tests}
 use Rattle.std.proofs.lemmas.List.{get_or-set_same, get_or-set_other}
-use Rattle.flat_policy.specs.Setup.{numbers_below}
+use Rattle.flat_policy.specs.Policy.Setup.{numbers_below}
 use Rattle.edge_matrix.specs.EdgeTables.{AllBelow, number_at, table_of, with_number}
 use Rattle.edge_matrix.proofs.Numbers.{get_or-map_numbers, map_numbers-but_one, map_numbers-same}
 

@@ -1,6 +1,6 @@
 -- The edges of a setup as tables of eight rows and eight columns.
 use Rattle.std.specs.Prelude.{List, [], if◌then◌else◌, map, replicate, ◌<◌, ◌^◌, slice_index, slice_index_or, slice_set, ℕ}
-use Rattle.flat_policy.specs.Setup.{SetupParts, edge_weight, migrates, numbers_below, steal_mask}
+use Rattle.flat_policy.specs.Policy.Setup.{SetupParts, edge_weight, migrates, numbers_below, steal_mask}
 use Rattle.flat_policy.specs.declared.setup.EdgeSpec.{EdgeSpec}
 
 -- what an edge carries, by the cluster that it leaves and the cluster that it leads to: its weight, 1 where threads may move

@@ -4,7 +4,7 @@
 #![tactic(auto)]
 
 ghost use Rattle.std.specs.Prelude.{◌≡◌};
-ghost use Rattle.flat_policy.specs.Setup.{mask_has};
+ghost use Rattle.flat_policy.specs.Policy.Setup.{mask_has};
 
 use bucket_tables::Table;
 use flat_policy::setup::{EdgeSpec, Setup};
@@ -39,10 +39,10 @@ impl Model for Edges {
 
 impl Edges {
     ghost use Rattle.std.specs.Prelude.{◌≡◌, ◌<◌, ◌↔◌, IsTrue};
-    ghost use Rattle.flat_policy.specs.Aim.{may_enter};
-    ghost use Rattle.flat_policy.specs.Offer.{MayTake, mask_between, may_take};
-    ghost use Rattle.flat_policy.specs.Queue.{Flat};
-    ghost use Rattle.flat_policy.specs.Setup.{SetupParts, edge_weight, migrates, steal_mask};
+    ghost use Rattle.flat_policy.specs.Policy.Aim.{may_enter};
+    ghost use Rattle.flat_policy.specs.Policy.Offer.{MayTake, mask_between, may_take};
+    ghost use Rattle.flat_policy.specs.Policy.Queue.{Flat};
+    ghost use Rattle.flat_policy.specs.Policy.Setup.{SetupParts, edge_weight, migrates, steal_mask};
     ghost use Rattle.edge_matrix.specs.EdgeTables.{edges_of, no_edges, with_edge};
 
     /// The edges of a setup.

@@ -5,10 +5,10 @@ use Rattle.sched_base.specs.declared.Facts.{Facts}
 use Rattle.bucket_tables.specs.declared.Lane.{Lane}
 use Rattle.flat_policy.specs.declared.lanes.Kind.{Kind}
 use Rattle.flat_policy.specs.declared.setup.Times.{Times}
-use Rattle.flat_policy.specs.Moves.{clutch_has_entries, entered, new_entry, removed, removed_by_selection, selected_by, settled_thread, turn_on_entering, turn_on_leaving, turn_on_selection, with_entry, with_next_turn, without, without_entry, without_turn}
-use Rattle.flat_policy.specs.Precedence.{clutch_priority}
-use Rattle.flat_policy.specs.Queue.{Clutch, Flat, Queued, clutch_of}
-use Rattle.flat_policy.specs.Windows.{Choice, windows_after}
+use Rattle.flat_policy.specs.Policy.Moves.{clutch_has_entries, entered, new_entry, removed, removed_by_selection, selected_by, settled_thread, turn_on_entering, turn_on_leaving, turn_on_selection, with_entry, with_next_turn, without, without_entry, without_turn}
+use Rattle.flat_policy.specs.Policy.Precedence.{clutch_priority}
+use Rattle.flat_policy.specs.Policy.Queue.{Clutch, Flat, Queued, clutch_of}
+use Rattle.flat_policy.specs.Policy.Windows.{Choice, windows_after}
 
 pub entered_entries : (ts : List Times) (t : Facts) (head : Bool) (now : ℕ) (s : Flat) → (entered ts t head now s).entries ≡ s.entries ++ new_entry s (settled_thread now t) head ∷ []
 entered_entries ts t head now s =

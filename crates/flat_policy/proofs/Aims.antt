@@ -4,10 +4,10 @@ use Rattle.std.specs.List.{cons_option, list_any}
 use Rattle.std.proofs.lemmas.Bool.{cond_both, false≢true, or_left, or_right}
 use Rattle.std.proofs.lemmas.Option.{none-some, same_Some}
 use Rattle.sched_base.specs.declared.Facts.{Facts}
-use Rattle.flat_policy.specs.Aim.{Look, Target, aim_among, aim_by, cluster_or, dark, lighter, loaded, look_at, may_enter_by, movable, needed, needed_by, not_looked, target_at, targets}
+use Rattle.flat_policy.specs.Policy.Aim.{Look, Target, aim_among, aim_by, cluster_or, off, lighter, loaded, look_at, may_enter_by, movable, needed, needed_by, not_looked, target_at, targets}
 use Rattle.flat_policy.specs.Laws.Aims.{AimsRight, IsLowestUnseen}
-use Rattle.flat_policy.specs.Setup.{SetupParts, cluster_count, edge_weight, migrates, numbers_below}
-use Rattle.flat_policy.specs.Unpreceded.{unpreceded}
+use Rattle.flat_policy.specs.Policy.Setup.{SetupParts, cluster_count, edge_weight, migrates, numbers_below}
+use Rattle.flat_policy.specs.Policy.Unpreceded.{unpreceded}
 use Rattle.flat_policy.proofs.Choice.{is_unpreceded}
 use Rattle.flat_policy.proofs.Members.{contains_cases, contains_here, contains_later, contains_none, find_finds, finds_from_member, member_from_any, member_of_filter, any_from_member}
 use Rattle.flat_policy.proofs.Leaves.{same_bool}
@@ -33,7 +33,7 @@ target_is : (setup : SetupParts) (prefer c : ℕ) (o : Option Look) (x : Target)
 target_is setup prefer c (Some (loaded l)) x h =
     let same : ◌≡◌ {A = Target} (record { cluster = c; weighed = l + edge_weight setup prefer c }) x = same_Some (record { cluster = c; weighed = l + edge_weight setup prefer c }) x h in
     sym (ap (λ (t : Target). t.cluster) same)
-target_is setup prefer c (Some dark) x h = absurd (none-some x h)
+target_is setup prefer c (Some off) x h = absurd (none-some x h)
 target_is setup prefer c None x h = absurd (none-some x h)
 
 target_migrates : (setup : SetupParts) (looks : List (Option Look)) (prefer : ℕ) (x : Target) → Contains (targets setup looks prefer) x → migrates setup prefer x.cluster ≡ true
@@ -51,7 +51,7 @@ among_is : (prefer : ℕ) (o : Option Look) (xs : List Target) (P : ℕ → Type
 among_is prefer (Some (loaded l)) xs P here there =
     let ys = filter (λ (x : Target). nat_lt x.weighed l) xs in
     cluster_is prefer ys P here (λ x c. there x (member_of_filter (λ (x : Target). nat_lt x.weighed l) xs x c).0) (unpreceded lighter ys) refl
-among_is prefer (Some dark) xs P here there = cluster_is prefer xs P here there (unpreceded lighter xs) refl
+among_is prefer (Some off) xs P here there = cluster_is prefer xs P here there (unpreceded lighter xs) refl
 among_is prefer None xs P here there = here
 
 same_Ok : (a b : ℕ) → ◌≡◌ {A = Result ℕ ℕ} (Ok a) (Ok b) → a ≡ b

@@ -2,7 +2,7 @@
 use Rattle.std.proofs.Common.{◌≡◌, ℕ, zero, suc, ◌<◌, ◌≤◌, Bool, true, Contains, List, [], ◌∷◌, filter, find, map, Some, sym, ap, ◌∙◌, subst, inl, inr, arith}
 use Rattle.std.proofs.lemmas.Bool.{cases_Bool, cond-false, cond-true, cond_both, false≢true}
 use Rattle.std.proofs.lemmas.Option.{same_Some}
-use Rattle.flat_policy.specs.Setup.{numbers_from}
+use Rattle.flat_policy.specs.Policy.Setup.{numbers_from}
 use Rattle.flat_policy.proofs.Members.{contains_cases, contains_here, contains_later, contains_none, member_of_filter}
 
 -- numbers that ascend, and the first that passes among them

@@ -5,7 +5,7 @@ use Rattle.sched_base.specs.Bucket.{index}
 use Rattle.sched_base.specs.declared.Bucket.{Bucket}
 use Rattle.sched_base.specs.declared.Bucket.TheVariants.{Bg, Df, Fg, Ini, Ui, Ut}
 use Rattle.bucket_tables.specs.declared.Lane.{Lane}
-use Rattle.flat_policy.specs.Queue.{Clutch, Queued, clutch_of, clutch_place, in_clutch, in_lane, lane, lane_of, same_bucket, same_flag, same_lane}
+use Rattle.flat_policy.specs.Policy.Queue.{Clutch, Queued, clutch_of, clutch_place, in_clutch, in_lane, lane, lane_of, same_bucket, same_flag, same_lane}
 
 -- the bucket of an index
 bucket_at : ℕ → Bucket

@@ -4,7 +4,7 @@ use Rattle.std.specs.List.{list_any}
 use Rattle.std.proofs.lemmas.Bool.{false≢true}
 use Rattle.std.proofs.lemmas.List.Elements.{All-contains}
 use Rattle.flat_policy.specs.Laws.Choice.{OrdersMembers, SameMembers}
-use Rattle.flat_policy.specs.Unpreceded.{IsUnpreceded, is_preceded, unpreceded}
+use Rattle.flat_policy.specs.Policy.Unpreceded.{IsUnpreceded, is_preceded, unpreceded}
 use Rattle.flat_policy.proofs.Choice.{chosen_is, is_unpreceded, strict_from_order, there_under_strict}
 use Rattle.flat_policy.proofs.Members.{all_from_members, contains_here, contains_later, contains_none}
 

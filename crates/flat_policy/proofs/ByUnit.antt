@@ -5,11 +5,11 @@ use Rattle.std.proofs.lemmas.List.Elements.{All-contains}
 use Rattle.bucket_tables.specs.declared.Lane.{Lane}
 use Rattle.flat_policy.specs.Laws.Choice.{OrdersMembers}
 use Rattle.flat_policy.specs.Laws.Units.{IsFirstClutch}
-use Rattle.flat_policy.specs.Moves.{goes_before, pick_in}
-use Rattle.flat_policy.specs.Precedence.{clutch_precedes, in_one_unit, precedes, precedes_in_lane}
-use Rattle.flat_policy.specs.Queue.{Clutch, Flat, Queued, clutch_entries, clutch_of, has_entries, in_clutch, in_lane, lane, lane_entries}
-use Rattle.flat_policy.specs.Unpreceded.{IsUnpreceded, unpreceded}
-use Rattle.flat_policy.specs.WellFormed.{WellFormed}
+use Rattle.flat_policy.specs.Policy.Moves.{goes_before, pick_in}
+use Rattle.flat_policy.specs.Policy.Precedence.{clutch_precedes, in_one_unit, precedes, precedes_in_lane}
+use Rattle.flat_policy.specs.Policy.Queue.{Clutch, Flat, Queued, clutch_entries, clutch_of, has_entries, in_clutch, in_lane, lane, lane_entries}
+use Rattle.flat_policy.specs.Policy.Unpreceded.{IsUnpreceded, unpreceded}
+use Rattle.flat_policy.specs.Policy.WellFormed.{WellFormed}
 use Rattle.flat_policy.proofs.ByMembers.{choice_alike, order_within}
 use Rattle.flat_policy.proofs.Buckets.{in_clutch_parts, in_own_clutch, in_own_lane}
 use Rattle.flat_policy.proofs.Chosen.{has_from_member}

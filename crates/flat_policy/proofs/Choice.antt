@@ -2,7 +2,7 @@
 use Rattle.std.proofs.Common.{◌≡◌, ◌⊎◌, Bool, true, false, not, List, [], ◌∷◌, Some, None, is_some, Contains, fold, cond, refl, sym, ap, ◌∙◌, subst, inl, inr}
 use Rattle.std.proofs.lemmas.Bool.{cases_Bool, false≢true, not-true, not_from_false, false_from_ne_true}
 use Rattle.std.proofs.lemmas.List.Elements.{All-contains}
-use Rattle.flat_policy.specs.Unpreceded.{IsUnpreceded, is_preceded, unpreceded}
+use Rattle.flat_policy.specs.Policy.Unpreceded.{IsUnpreceded, is_preceded, unpreceded}
 use Rattle.flat_policy.specs.Laws.Choice.{ChoosesOne, OrdersMembers, better, has_member}
 use Rattle.flat_policy.proofs.Members.{all_from_members, contains_cases, contains_here, contains_later, contains_none, each_from_none, find_finds, finds_from_member, none_from_each}
 

@@ -6,8 +6,8 @@ use Rattle.sched_base.specs.declared.Bucket.{Bucket}
 use Rattle.sched_base.specs.declared.Bucket.TheVariants.{Bg, Df, Fg, Ini, Ui, Ut}
 use Rattle.bucket_tables.specs.declared.Lane.{Lane}
 use Rattle.flat_policy.specs.Laws.Choice.{has_member}
-use Rattle.flat_policy.specs.Queue.{Flat, LaneWindow, Queued, has_entries, in_lane, lane, lane_of, timeshare_lanes}
-use Rattle.flat_policy.specs.Windows.{better_ui_lane, bucket_has_entries, bucket_priority, due_before, filled_lanes, lane_priority, stands_higher, ui_goes_first}
+use Rattle.flat_policy.specs.Policy.Queue.{Flat, LaneState, Queued, has_entries, in_lane, lane, lane_of, timeshare_lanes}
+use Rattle.flat_policy.specs.Policy.Windows.{better_ui_lane, bucket_has_entries, bucket_priority, due_before, filled_lanes, lane_priority, stands_higher, ui_goes_first}
 use Rattle.flat_policy.proofs.Buckets.{in_own_lane}
 use Rattle.flat_policy.proofs.Choice.{StrictOn}
 use Rattle.flat_policy.proofs.Greatest.{empty_lane_priority, ui_lane_priority}
@@ -32,7 +32,7 @@ higher_transitive x y z h k =
     rises_transitive (index x.bucket) (index y.bucket) (index z.bucket) (x.bound && not y.bound) (y.bound && not z.bound) (x.bound && not z.bound)
     (λ e f. bound_transitive x.bound y.bound z.bound) h k
 
-pub due_strict : (ls : List LaneWindow) → StrictOn (Contains ls) due_before
+pub due_strict : (ls : List LaneState) → StrictOn (Contains ls) due_before
 due_strict ls = record {
   irreflexive = λ x c. by_number_irreflexive x.deadline (stands_higher x.lane x.lane) (higher_irreflexive x.lane);
   transitive = λ x y z cx cy cz h k.
@@ -68,14 +68,14 @@ ten_or_ui Bg true = inl (8, omega arith, refl)
 ten_or_ui Bg false = inl (9, omega arith, refl)
 
 -- a lane of the ten that has entries is among the filled ones
-filled_from_ten : (s : Flat) → map (λ (l : LaneWindow). l.lane) s.lanes ≡ timeshare_lanes → (at : Lane) → Contains timeshare_lanes at → has_entries s at ≡ true → has_member (filled_lanes s) ≡ true
+filled_from_ten : (s : Flat) → map (λ (l : LaneState). l.lane) s.lanes ≡ timeshare_lanes → (at : Lane) → Contains timeshare_lanes at → has_entries s at ≡ true → has_member (filled_lanes s) ≡ true
 filled_from_ten s ten at c h =
-    let m = member_of_map (λ (l : LaneWindow). l.lane) s.lanes at (subst (λ ls. Contains ls at) (sym ten) c) in
+    let m = member_of_map (λ (l : LaneState). l.lane) s.lanes at (subst (λ ls. Contains ls at) (sym ten) c) in
     has_from_member (filled_lanes s) m.0
-    (filter_has (λ (l : LaneWindow). has_entries s l.lane) s.lanes m.0 m.1 (ap (has_entries s) m.2 ∙ h))
+    (filter_has (λ (l : LaneState). has_entries s l.lane) s.lanes m.0 m.1 (ap (has_entries s) m.2 ∙ h))
 
 -- where no UI lane goes first, a filled lane is among the ten
-filled_from_bucket : (s : Flat) → map (λ (l : LaneWindow). l.lane) s.lanes ≡ timeshare_lanes → bucket_has_entries s Fg ≡ true → has_member (filled_lanes s) ≡ true
+filled_from_bucket : (s : Flat) → map (λ (l : LaneState). l.lane) s.lanes ≡ timeshare_lanes → bucket_has_entries s Fg ≡ true → has_member (filled_lanes s) ≡ true
 filled_from_bucket s ten h =
     elim (or_cases (has_entries s (lane Fg true)) (has_entries s (lane Fg false)) h) [
       | inl e ↦ filled_from_ten s ten (lane Fg true) (0, omega arith, refl) e
@@ -94,7 +94,7 @@ fg_where_ui_waits s ui h =
       | inr e ↦ not-false (bucket_has_entries s Fg) (or_parts (not (bucket_has_entries s Fg)) (nat_le (bucket_priority s Fg) (bucket_priority s Ui)) e).0
     ]
 
-pub filled_from_entry : (s : Flat) → map (λ (l : LaneWindow). l.lane) s.lanes ≡ timeshare_lanes → ui_goes_first s ≡ false → (e : Queued) → Contains s.entries e → has_member (filled_lanes s) ≡ true
+pub filled_from_entry : (s : Flat) → map (λ (l : LaneState). l.lane) s.lanes ≡ timeshare_lanes → ui_goes_first s ≡ false → (e : Queued) → Contains s.entries e → has_member (filled_lanes s) ≡ true
 filled_from_entry s ten h e c =
     let at : Lane = lane_of e.facts in
     let filled : has_entries s at ≡ true = any_from_member (in_lane at) s.entries e c (in_own_lane e) in
@@ -104,8 +104,8 @@ filled_from_entry s ten h e c =
           (fg_where_ui_waits s (ui_from_entry s at.bound (ap (λ b. has_entries s (lane b at.bound)) (sym ui) ∙ filled)) h)
     ]
 
-pub filled_entry : (s : Flat) (l : LaneWindow) → Contains (filled_lanes s) l → has_entries s l.lane ≡ true
-filled_entry s l c = (member_of_filter (λ (l : LaneWindow). has_entries s l.lane) s.lanes l c).1
+pub filled_entry : (s : Flat) (l : LaneState) → Contains (filled_lanes s) l → has_entries s l.lane ≡ true
+filled_entry s l c = (member_of_filter (λ (l : LaneState). has_entries s l.lane) s.lanes l c).1
 
 -- the better UI lane has entries where some UI lane has
 pub better_ui_has : (s : Flat) → bucket_has_entries s Ui ≡ true → has_entries s (better_ui_lane s) ≡ true

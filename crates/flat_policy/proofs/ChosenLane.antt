@@ -8,44 +8,44 @@ use Rattle.sched_base.specs.declared.Bucket.TheVariants.{Fg, Ui}
 use Rattle.flat_policy.specs.declared.setup.Times.{Times}
 use Rattle.flat_policy.specs.Laws.Choice.{has_member}
 use Rattle.flat_policy.specs.Laws.Picks.{ChoosesFilled}
-use Rattle.flat_policy.specs.Queue.{Flat, LaneWindow, Queued, has_entries, in_lane, timeshare_lanes}
-use Rattle.flat_policy.specs.Windows.{Choice, better_ui_lane, bucket_has_entries, bucket_priority, chosen, chosen_against, chosen_behind, chosen_by_deadline, chosen_under, due_before, earliest, filled_lanes, higher_lanes, may_pass, passing, some_higher, stands_higher, ui_goes_first}
+use Rattle.flat_policy.specs.Policy.Queue.{Flat, LaneState, Queued, has_entries, in_lane, timeshare_lanes}
+use Rattle.flat_policy.specs.Policy.Windows.{Choice, better_ui_lane, bucket_has_entries, bucket_priority, chosen, chosen_against, chosen_behind, chosen_by_deadline, chosen_under, due_before, earliest, filled_lanes, higher_lanes, may_pass, passing, some_higher, stands_higher, ui_goes_first}
 use Rattle.flat_policy.proofs.Choice.{is_unpreceded, there_under_strict}
 use Rattle.flat_policy.proofs.Chosen.{better_ui_has, due_strict, filled_entry, filled_from_entry, has_from_member}
 use Rattle.flat_policy.proofs.Greatest.{filter_none}
 use Rattle.flat_policy.proofs.Members.{contains_here, member_from_any, member_of_filter, none_from_each}
 
 -- whichever lane is chosen against the earliest, it is the earliest or one that may pass it
-against_behind : (s : Flat) (b : Bool) (e : LaneWindow) → has_entries s e.lane ≡ true → has_entries s (chosen_behind b e).lane ≡ true
+against_behind : (s : Flat) (b : Bool) (e : LaneState) → has_entries s e.lane ≡ true → has_entries s (chosen_behind b e).lane ≡ true
 against_behind s true e h = h
 against_behind s false e h = h
 
-against_filled : (ts : List Times) (s : Flat) (e : LaneWindow) → has_entries s e.lane ≡ true → (o : Option LaneWindow) → passing ts s e ≡ o → has_entries s (chosen_against o s e).lane ≡ true
+against_filled : (ts : List Times) (s : Flat) (e : LaneState) → has_entries s e.lane ≡ true → (o : Option LaneState) → passing ts s e ≡ o → has_entries s (chosen_against o s e).lane ≡ true
 against_filled ts s e h (Some l) p =
-    let among = (is_unpreceded (λ (x y : LaneWindow). stands_higher x.lane y.lane) (filter (may_pass ts) (higher_lanes s e)) l p).member in
+    let among = (is_unpreceded (λ (x y : LaneState). stands_higher x.lane y.lane) (filter (may_pass ts) (higher_lanes s e)) l p).member in
     let higher = (member_of_filter (may_pass ts) (higher_lanes s e) l among).0 in
-    filled_entry s l (member_of_filter (λ (m : LaneWindow). nat_lt (index m.lane.bucket) (index e.lane.bucket)) (filled_lanes s) l higher).0
+    filled_entry s l (member_of_filter (λ (m : LaneState). nat_lt (index m.lane.bucket) (index e.lane.bucket)) (filled_lanes s) l higher).0
 against_filled ts s e h None p = against_behind s (some_higher (higher_lanes s e)) e h
 
 -- the choice by deadlines, by the earliest lane
-by_deadline_filled : (ts : List Times) (s : Flat) (o : Option LaneWindow) → earliest s ≡ o → (c : Choice) → option_map (λ (e : LaneWindow). chosen_against (passing ts s e) s e) o ≡ Some c → has_entries s c.lane ≡ true
+by_deadline_filled : (ts : List Times) (s : Flat) (o : Option LaneState) → earliest s ≡ o → (c : Choice) → option_map (λ (e : LaneState). chosen_against (passing ts s e) s e) o ≡ Some c → has_entries s c.lane ≡ true
 by_deadline_filled ts s None e c h = absurd (false≢true (ap is_some h))
 by_deadline_filled ts s (Some l) e c h =
     let same : chosen_against (passing ts s l) s l ≡ c = grind (arith, h) in
     subst (λ (d : Choice). has_entries s d.lane ≡ true) same
     (against_filled ts s l (filled_entry s l (is_unpreceded due_before (filled_lanes s) l e).member) (passing ts s l) refl)
 
-by_deadline_there : (o : Option LaneWindow) (f : LaneWindow → Choice) → is_some (option_map f o) ≡ is_some o
+by_deadline_there : (o : Option LaneState) (f : LaneState → Choice) → is_some (option_map f o) ≡ is_some o
 by_deadline_there None f = refl
 by_deadline_there (Some l) f = refl
 
 -- a queue without entries has no filled lane
 none_filled : (s : Flat) → s.entries ≡ [] → filled_lanes s ≡ []
 none_filled s e =
-    filter_none (λ (l : LaneWindow). has_entries s l.lane) s.lanes
-    (none_from_each (λ (l : LaneWindow). has_entries s l.lane) s.lanes (λ l c. ap (list_any (in_lane l.lane)) e))
+    filter_none (λ (l : LaneState). has_entries s l.lane) s.lanes
+    (none_from_each (λ (l : LaneState). has_entries s l.lane) s.lanes (λ l c. ap (list_any (in_lane l.lane)) e))
 
-filled_is : (s : Flat) → map (λ (l : LaneWindow). l.lane) s.lanes ≡ timeshare_lanes → ui_goes_first s ≡ false → (es : List Queued) → s.entries ≡ es → has_member (filled_lanes s) ≡ has_member es
+filled_is : (s : Flat) → map (λ (l : LaneState). l.lane) s.lanes ≡ timeshare_lanes → ui_goes_first s ≡ false → (es : List Queued) → s.entries ≡ es → has_member (filled_lanes s) ≡ has_member es
 filled_is s ten h [] e = ap (λ ls. has_member ls) (none_filled s e)
 filled_is s ten h (q ∷ qs) e = filled_from_entry s ten h q (subst (λ es. Contains es q) (sym e) (contains_here q qs))
 
@@ -67,16 +67,16 @@ first_by_ui ts s h =
       filled = λ c e. subst (λ (d : Choice). has_entries s d.lane ≡ true) (same_choice (sym is ∙ e)) has;
     }
 
-first_by_deadline : (ts : List Times) (s : Flat) → map (λ (l : LaneWindow). l.lane) s.lanes ≡ timeshare_lanes → ui_goes_first s ≡ false → ChoosesFilled ts s
+first_by_deadline : (ts : List Times) (s : Flat) → map (λ (l : LaneState). l.lane) s.lanes ≡ timeshare_lanes → ui_goes_first s ≡ false → ChoosesFilled ts s
 first_by_deadline ts s ten h =
     let is : chosen ts s ≡ chosen_by_deadline ts s = ap (λ b. chosen_under (cond b (Some (better_ui_lane s)) None) ts s) h in
     record {
-      there = ap is_some is ∙ (by_deadline_there (earliest s) (λ (e : LaneWindow). chosen_against (passing ts s e) s e)
+      there = ap is_some is ∙ (by_deadline_there (earliest s) (λ (e : LaneState). chosen_against (passing ts s e) s e)
           ∙ (there_under_strict due_before (filled_lanes s) (due_strict (filled_lanes s)) ∙ filled_is s ten h s.entries refl));
       filled = λ c e. by_deadline_filled ts s (earliest s) refl c (sym is ∙ e);
     }
 
-pub chooses_filled : (ts : List Times) (s : Flat) → map (λ (l : LaneWindow). l.lane) s.lanes ≡ timeshare_lanes → ChoosesFilled ts s
+pub chooses_filled : (ts : List Times) (s : Flat) → map (λ (l : LaneState). l.lane) s.lanes ≡ timeshare_lanes → ChoosesFilled ts s
 chooses_filled ts s ten =
     elim (cases_Bool (ui_goes_first s)) [
       | inl e ↦ first_by_ui ts s e

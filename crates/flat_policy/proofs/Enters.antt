@@ -8,11 +8,11 @@ use Rattle.std.proofs.lemmas.List.Folds.{list_any-append}
 use Rattle.sched_base.specs.declared.Facts.{Facts}
 use Rattle.bucket_tables.specs.declared.Lane.{Lane}
 use Rattle.flat_policy.specs.declared.setup.Times.{Times}
-use Rattle.flat_policy.specs.Moves.{clutch_has_entries, entered, lanes_filled, new_entry, settled_thread, spans_with, turn_on_entering, with_entry, with_next_turn}
-use Rattle.flat_policy.specs.Precedence.{clutch_priority}
-use Rattle.flat_policy.specs.Queue.{Clutch, Flat, LaneWindow, Queued, clutch_of, clutch_place, has_entries, in_clutch, lane_of, order_number, spans_of}
-use Rattle.flat_policy.specs.Usage.{Spans, with_spans}
-use Rattle.flat_policy.specs.Windows.{at_lane, renewed_deadline}
+use Rattle.flat_policy.specs.Policy.Moves.{clutch_has_entries, entered, lanes_filled, new_entry, settled_thread, spans_with, turn_on_entering, with_entry, with_next_turn}
+use Rattle.flat_policy.specs.Policy.Precedence.{clutch_priority}
+use Rattle.flat_policy.specs.Policy.Queue.{Clutch, Flat, LaneState, Queued, clutch_of, clutch_place, has_entries, in_clutch, lane_of, order_number, spans_of}
+use Rattle.flat_policy.specs.Policy.Usage.{Spans, with_spans}
+use Rattle.flat_policy.specs.Policy.Windows.{at_lane, renewed_deadline}
 use Rattle.flat_policy.proofs.Buckets.{in_clutch_parts, in_own_clutch}
 use Rattle.flat_policy.proofs.KeptLanes.{at_lane_keeps, lane_names}
 use Rattle.flat_policy.proofs.Members.{any_from_member}
@@ -46,7 +46,7 @@ spans_kept s t =
 
 lanes_kept : (ts : List Times) (now : ℕ) (s : Flat) (at : Lane) → lane_names (lanes_filled ts now s at) ≡ lane_names s.lanes
 lanes_kept ts now s at =
-    cond_both (has_entries s at) s.lanes (at_lane at (renewed_deadline ts now) s.lanes) (λ (ls : List LaneWindow). lane_names ls ≡ lane_names s.lanes)
+    cond_both (has_entries s at) s.lanes (at_lane at (renewed_deadline ts now) s.lanes) (λ (ls : List LaneState). lane_names ls ≡ lane_names s.lanes)
     (λ e. refl) (λ e. at_lane_keeps at (renewed_deadline ts now) (λ l. refl) s.lanes)
 
 -- the queue with the entry, but for the turn of its clutch bucket; a bound entry needs none

@@ -1,7 +1,7 @@
 -- Facts of the entries of a queue, one by one and of all.
 use Rattle.std.proofs.Common.{◌≡◌, ◌<◌, List, [], ◌∷◌, Contains, sym, ap, ◌∙◌, subst, inl, inr, arith}
-use Rattle.flat_policy.specs.Queue.{Queued}
-use Rattle.flat_policy.specs.WellFormed.{ArrivalsRise, EachQueued, HasOrderNumber}
+use Rattle.flat_policy.specs.Policy.Queue.{Queued}
+use Rattle.flat_policy.specs.Policy.WellFormed.{ArrivalsRise, EachQueued, HasOrderNumber}
 use Rattle.flat_policy.proofs.Members.{contains_cases, contains_here, contains_later, contains_none}
 
 pub each_member : (P : Queued → Type 0) (es : List Queued) → EachQueued P es → (e : Queued) → Contains es e → P e

@@ -4,10 +4,10 @@ use Rattle.std.specs.List.{list_any}
 use Rattle.std.proofs.lemmas.Bool.{cond-false, or_parts}
 use Rattle.sched_base.specs.declared.Bucket.{Bucket}
 use Rattle.sched_base.specs.declared.Bucket.TheVariants.{Ui}
-use Rattle.flat_policy.specs.Precedence.{bound_priority, clutch_priority, greatest, unit_priority, greatest_pri}
-use Rattle.flat_policy.specs.Queue.{Clutch, Flat, Queued, clutch_entries, clutch_of, has_entries, in_lane, lane, lane_entries, spans_of}
-use Rattle.flat_policy.specs.Usage.{score}
-use Rattle.flat_policy.specs.Windows.{lane_priority}
+use Rattle.flat_policy.specs.Policy.Precedence.{bound_priority, clutch_priority, greatest, unit_priority, greatest_pri}
+use Rattle.flat_policy.specs.Policy.Queue.{Clutch, Flat, Queued, clutch_entries, clutch_of, has_entries, in_lane, lane, lane_entries, spans_of}
+use Rattle.flat_policy.specs.Policy.Usage.{score}
+use Rattle.flat_policy.specs.Policy.Windows.{lane_priority}
 use Rattle.flat_policy.proofs.Buckets.{in_lane_is}
 use Rattle.flat_policy.proofs.Members.{contains_cases, contains_none, member_from_any, filter_has}
 

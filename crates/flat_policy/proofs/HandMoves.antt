@@ -5,13 +5,13 @@ use Rattle.std.proofs.lemmas.Option.{same_Some}
 use Rattle.sched_base.specs.Facts.{charged}
 use Rattle.sched_base.specs.declared.Answer.{Answer}
 use Rattle.sched_base.specs.declared.Facts.{Facts}
-use Rattle.flat_policy.specs.ClusterSteps.{Event, look_event, power_event, refresh_event, touched}
+use Rattle.flat_policy.specs.Policy.ClusterSteps.{Event, look_event, power_event, refresh_event, touched}
 use Rattle.flat_policy.specs.Laws.Sound.{FlatFits, HandFits, Sound, ThreadFits}
-use Rattle.flat_policy.specs.Machine.{Game, Hand, aim_outcome, flat_at, hand_at, kept_hand, leaving_hand, look_outcome, looked_hand, ran_outcome, seen_look, with_hand}
-use Rattle.flat_policy.specs.Queue.{Flat, Queued}
-use Rattle.flat_policy.specs.Refresh.{refreshed, repriced}
-use Rattle.flat_policy.specs.Setup.{SetupParts, actor_count, cluster_count, group_count, home_of, rate_of}
-use Rattle.flat_policy.specs.WellFormed.{EachQueued}
+use Rattle.flat_policy.specs.Policy.Machine.{MachineState, Hand, aim_outcome, flat_at, hand_at, kept_hand, leaving_hand, look_outcome, looked_hand, ran_outcome, look_told, with_hand}
+use Rattle.flat_policy.specs.Policy.Queue.{Flat, Queued}
+use Rattle.flat_policy.specs.Policy.Refresh.{refreshed, repriced}
+use Rattle.flat_policy.specs.Policy.Setup.{SetupParts, actor_count, cluster_count, group_count, home_of, rate_of}
+use Rattle.flat_policy.specs.Policy.WellFormed.{EachQueued}
 use Rattle.flat_policy.proofs.Parts.{each_map}
 use Rattle.flat_policy.proofs.Placed.{held_by_test, passes, queued_by, sum_by_map}
 use Rattle.flat_policy.proofs.Refreshed.{refreshed_entries, refreshed_fits}
@@ -23,17 +23,17 @@ kept_fits : (setup : SetupParts) (h : Hand) (now : ℕ) → HandFits setup h →
 kept_fits setup h now fit = record { thread = fit.thread; looks = fit.looks }
 
 looked_fits : (setup : SetupParts) (h : Hand) (c : ℕ) (answer : Answer) (now : ℕ) → HandFits setup h → HandFits setup (looked_hand h c answer now)
-looked_fits setup h c answer now fit = record { thread = fit.thread; looks = length-set h.looks c (Some (seen_look answer)) ∙ fit.looks }
+looked_fits setup h c answer now fit = record { thread = fit.thread; looks = length-set h.looks c (Some (look_told answer)) ∙ fit.looks }
 
 -- a step at a cluster that leaves its names and the hand
-pub leaving_goes : (setup : SetupParts) (g : Game) (a c now : ℕ) (e : Event) → Sound setup g → a < actor_count setup → c < cluster_count setup → FlatFits setup e.flat → ((p : ℕ → Bool) → queued_by p e.flat ≡ queued_by p (flat_at g c)) → Goes setup g (leaving_hand g a (hand_at g a) c now e).game
+pub leaving_goes : (setup : SetupParts) (g : MachineState) (a c now : ℕ) (e : Event) → Sound setup g → a < actor_count setup → c < cluster_count setup → FlatFits setup e.flat → ((p : ℕ → Bool) → queued_by p e.flat ≡ queued_by p (flat_at g c)) → Goes setup g (leaving_hand g a (hand_at g a) c now e).game
 leaving_goes setup g a c now e sound ain cin fit same =
     goes_flat setup g a c (kept_hand (hand_at g a) now) e.flat sound ain cin (kept_fits setup (hand_at g a) now (sound.hands a ain)) fit (λ p. omega (arith, same p))
 
 touched_fits : (setup : SetupParts) (s : Flat) (now : ℕ) → FlatFits setup s → FlatFits setup (touched now s)
 touched_fits setup s now fit = flat_fits setup (touched now s) (flat_parts setup s fit) fit.threads
 
-pub power_goes : (setup : SetupParts) (g : Game) (a c now : ℕ) (on : Bool) → Sound setup g → a < actor_count setup → c < cluster_count setup → Goes setup g (leaving_hand g a (hand_at g a) c now (power_event on now (flat_at g c))).game
+pub power_goes : (setup : SetupParts) (g : MachineState) (a c now : ℕ) (on : Bool) → Sound setup g → a < actor_count setup → c < cluster_count setup → Goes setup g (leaving_hand g a (hand_at g a) c now (power_event on now (flat_at g c))).game
 power_goes setup g a c now on sound ain cin =
     leaving_goes setup g a c now (power_event on now (flat_at g c)) sound ain cin
     (flat_fits setup (record (flat_at g c) { on = on; last = now }) (flat_parts setup (flat_at g c) (sound.flats c cin)) (sound.flats c cin).threads)
@@ -60,13 +60,13 @@ refreshed_count groups s now p =
     ap (count_by (λ (e : Queued). p e.facts.name)) (refreshed_entries groups s now)
     ∙ sum_by_map (λ (e : Queued). cond (p e.facts.name) 1 0) (repriced s now) s.entries (λ e. ap (λ n. cond (p n) 1 0) (repriced_name s now e))
 
-pub refresh_goes : (setup : SetupParts) (g : Game) (a c now : ℕ) → Sound setup g → a < actor_count setup → c < cluster_count setup → Goes setup g (leaving_hand g a (hand_at g a) c now (refresh_event setup now (flat_at g c))).game
+pub refresh_goes : (setup : SetupParts) (g : MachineState) (a c now : ℕ) → Sound setup g → a < actor_count setup → c < cluster_count setup → Goes setup g (leaving_hand g a (hand_at g a) c now (refresh_event setup now (flat_at g c))).game
 refresh_goes setup g a c now sound ain cin =
     leaving_goes setup g a c now (refresh_event setup now (flat_at g c)) sound ain cin
     (refreshed_flat setup (flat_at g c) now (sound.flats c cin))
     (refreshed_count (group_count setup) (flat_at g c) now)
 
-pub look_goes : (setup : SetupParts) (g : Game) (a c now : ℕ) → Sound setup g → a < actor_count setup → c < cluster_count setup → (o : Option Facts) → Goes setup g (look_outcome setup g a (hand_at g a) c now o).game
+pub look_goes : (setup : SetupParts) (g : MachineState) (a c now : ℕ) → Sound setup g → a < actor_count setup → c < cluster_count setup → (o : Option Facts) → Goes setup g (look_outcome setup g a (hand_at g a) c now o).game
 look_goes setup g a c now sound ain cin None = goes_nowhere setup g sound
 look_goes setup g a c now sound ain cin (Some t) =
     let e : Event = look_event setup c t.bucket now (flat_at g c) in
@@ -76,11 +76,11 @@ look_goes setup g a c now sound ain cin (Some t) =
     (λ p. refl)
 
 -- a step that changes no more than a hand
-hand_goes : (setup : SetupParts) (g : Game) (a : ℕ) (h : Hand) → Sound setup g → a < actor_count setup → HandFits setup h → ((p : ℕ → Bool) → held_by_test p h ≡ held_by_test p (hand_at g a)) → Goes setup g (with_hand a h g)
+hand_goes : (setup : SetupParts) (g : MachineState) (a : ℕ) (h : Hand) → Sound setup g → a < actor_count setup → HandFits setup h → ((p : ℕ → Bool) → held_by_test p h ≡ held_by_test p (hand_at g a)) → Goes setup g (with_hand a h g)
 hand_goes setup g a h sound ain fit same =
     goes_yard setup g a h g.yard [] sound ain fit sound.yard (sym (append-nil g.yard.made)) (λ once p. omega (arith, same p)) (inl refl) (λ l. l)
 
-pub aim_goes : (setup : SetupParts) (g : Game) (a now : ℕ) → Sound setup g → a < actor_count setup → (o : Option Facts) → Goes setup g (aim_outcome setup g a (hand_at g a) now o).game
+pub aim_goes : (setup : SetupParts) (g : MachineState) (a now : ℕ) → Sound setup g → a < actor_count setup → (o : Option Facts) → Goes setup g (aim_outcome setup g a (hand_at g a) now o).game
 aim_goes setup g a now sound ain None = goes_nowhere setup g sound
 aim_goes setup g a now sound ain (Some t) =
     hand_goes setup g a (kept_hand (hand_at g a) now) sound ain (kept_fits setup (hand_at g a) now (sound.hands a ain)) (λ p. refl)
@@ -89,7 +89,7 @@ aim_goes setup g a now sound ain (Some t) =
 charged_fits : (setup : SetupParts) (us rate : ℕ) (t : Facts) → ThreadFits setup t → ThreadFits setup (charged us rate t)
 charged_fits setup us rate t fit = record { group = fit.group; base = fit.base; bound = fit.bound }
 
-pub ran_goes : (setup : SetupParts) (g : Game) (a us now : ℕ) → Sound setup g → a < actor_count setup → (o : Option Facts) → (hand_at g a).thread ≡ o → Goes setup g (ran_outcome setup g a (hand_at g a) us now o).game
+pub ran_goes : (setup : SetupParts) (g : MachineState) (a us now : ℕ) → Sound setup g → a < actor_count setup → (o : Option Facts) → (hand_at g a).thread ≡ o → Goes setup g (ran_outcome setup g a (hand_at g a) us now o).game
 ran_goes setup g a us now sound ain None e = goes_nowhere setup g sound
 ran_goes setup g a us now sound ain (Some t) e =
     let u : Facts = charged us (rate_of setup (home_of setup a)) t in

@@ -5,10 +5,10 @@ use Rattle.std.proofs.lemmas.Bool.{cases_Bool, false≢true, or_right, or_cases,
 use Rattle.sched_base.specs.declared.Bucket.{Bucket}
 use Rattle.bucket_tables.specs.declared.Lane.{Lane}
 use Rattle.flat_policy.specs.Laws.Choice.{OrdersMembers}
-use Rattle.flat_policy.specs.Precedence.{clutch_precedes, clutch_priority, in_one_unit, precedes, precedes_in_lane, turn_before}
-use Rattle.flat_policy.specs.Queue.{Clutch, Flat, Queued, clutch_of, in_clutch, in_lane, lane_entries, turn_of}
-use Rattle.flat_policy.specs.Moves.{goes_before}
-use Rattle.flat_policy.specs.WellFormed.{TurnsDiffer, WellFormed}
+use Rattle.flat_policy.specs.Policy.Precedence.{clutch_precedes, clutch_priority, in_one_unit, precedes, precedes_in_lane, turn_before}
+use Rattle.flat_policy.specs.Policy.Queue.{Clutch, Flat, Queued, clutch_of, in_clutch, in_lane, lane_entries, turn_of}
+use Rattle.flat_policy.specs.Policy.Moves.{goes_before}
+use Rattle.flat_policy.specs.Policy.WellFormed.{TurnsDiffer, WellFormed}
 use Rattle.flat_policy.proofs.Buckets.{clutch_is, in_lane_is, in_own_clutch}
 use Rattle.flat_policy.proofs.Choice.{StrictOn}
 use Rattle.flat_policy.proofs.Entries.{each_member}

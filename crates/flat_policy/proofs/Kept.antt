@@ -4,11 +4,11 @@ use Rattle.std.proofs.lemmas.Bool.{and_from, or_left, or_right}
 use Rattle.std.proofs.lemmas.List.Sums.{count_by-le-length, length-filter}
 use Rattle.std.proofs.lemmas.Option.{none-some, option_and_then_some}
 use Rattle.flat_policy.specs.declared.setup.Times.{Times}
-use Rattle.flat_policy.specs.ClusterSteps.{flat_after_offer}
-use Rattle.flat_policy.specs.Moves.{goes_before, pick, pick_in, selected}
-use Rattle.flat_policy.specs.Offer.{first_there, foreign_before, is_masked, masked_before, may_take, offered, offered_foreign, offered_masked, prefers}
-use Rattle.flat_policy.specs.Queue.{Flat, Queued}
-use Rattle.flat_policy.specs.Windows.{Choice, chosen, expired, expired_window}
+use Rattle.flat_policy.specs.Policy.ClusterSteps.{flat_after_offer}
+use Rattle.flat_policy.specs.Policy.Moves.{goes_before, pick, pick_in, selected}
+use Rattle.flat_policy.specs.Policy.Offer.{first_there, foreign_before, is_masked, masked_before, may_take, offered, offered_foreign, offered_masked, prefers}
+use Rattle.flat_policy.specs.Policy.Queue.{Flat, Queued}
+use Rattle.flat_policy.specs.Policy.Windows.{Choice, chosen, expired, expired_window}
 use Rattle.flat_policy.proofs.After.{removed_entries, selected_by_entries, without_some}
 use Rattle.flat_policy.proofs.Choice.{is_unpreceded}
 use Rattle.flat_policy.proofs.KeptLanes.{expired_keeps, map_keeps_lanes}

@@ -2,10 +2,10 @@
 use Rattle.std.proofs.Common.{◌≡◌, ℕ, ◌<◌, ◌==◌, Bool, true, false, not, cond, Contains, List, is_some, refl, sym, ap, ◌∙◌, eqb-true}
 use Rattle.std.specs.List.{list_any}
 use Rattle.std.proofs.lemmas.Bool.{cond_both, false≢true, false_from_ne_true, not-false, not-true, not_from_false}
-use Rattle.flat_policy.specs.Moves.{clutch_has_entries, removed, removed_by_selection, turn_on_leaving, turn_on_selection, with_next_turn, without, without_entry, without_turn}
-use Rattle.flat_policy.specs.Precedence.{clutch_priority}
-use Rattle.flat_policy.specs.Queue.{Clutch, Flat, Queued, clutch_of, in_clutch}
-use Rattle.flat_policy.specs.WellFormed.{ArrivalsRise}
+use Rattle.flat_policy.specs.Policy.Moves.{clutch_has_entries, removed, removed_by_selection, turn_on_leaving, turn_on_selection, with_next_turn, without, without_entry, without_turn}
+use Rattle.flat_policy.specs.Policy.Precedence.{clutch_priority}
+use Rattle.flat_policy.specs.Policy.Queue.{Clutch, Flat, Queued, clutch_of, in_clutch}
+use Rattle.flat_policy.specs.Policy.WellFormed.{ArrivalsRise}
 use Rattle.flat_policy.proofs.Buckets.{in_own_clutch}
 use Rattle.flat_policy.proofs.Enters.{bound_in_none, not_in_other}
 use Rattle.flat_policy.proofs.Entries.{each_member, same_from_arrival}

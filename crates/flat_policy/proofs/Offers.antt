@@ -5,11 +5,11 @@ use Rattle.std.proofs.lemmas.Bool.{and_parts, cases_Bool, cond-false, cond-true,
 use Rattle.sched_base.specs.Bucket.{index}
 use Rattle.flat_policy.specs.Laws.Choice.{OrdersMembers, has_member}
 use Rattle.flat_policy.specs.Laws.Offers.{Offers, OffersInOrder}
-use Rattle.flat_policy.specs.Offer.{first_there, foreign_before, is_masked, is_unbound, mask_between, masked_before, may_take, offered, offered_foreign, offered_masked, prefers}
-use Rattle.flat_policy.specs.Precedence.{precedes, precedes_in_lane}
-use Rattle.flat_policy.specs.Queue.{Flat, Queued}
-use Rattle.flat_policy.specs.Setup.{SetupParts, mask_has, migrates}
-use Rattle.flat_policy.specs.WellFormed.{WellFormed}
+use Rattle.flat_policy.specs.Policy.Offer.{first_there, foreign_before, is_masked, is_unbound, mask_between, masked_before, may_take, offered, offered_foreign, offered_masked, prefers}
+use Rattle.flat_policy.specs.Policy.Precedence.{precedes, precedes_in_lane}
+use Rattle.flat_policy.specs.Policy.Queue.{Flat, Queued}
+use Rattle.flat_policy.specs.Policy.Setup.{SetupParts, mask_has, migrates}
+use Rattle.flat_policy.specs.Policy.WellFormed.{WellFormed}
 use Rattle.flat_policy.proofs.Buckets.{bucket_from_index}
 use Rattle.flat_policy.proofs.Choice.{strict_from_order, there_under_strict}
 use Rattle.flat_policy.proofs.InLane.{unbound_strict, unbound_total}

@@ -3,11 +3,11 @@ use Rattle.std.proofs.Common.{◌≡◌, ℕ, ◌+◌, ◌*◌, nat_lt, Bool, tr
 use Rattle.std.proofs.lemmas.Bool.{false≢true}
 use Rattle.sched_base.specs.Bucket.{index}
 use Rattle.bucket_tables.specs.declared.Lane.{Lane}
-use Rattle.flat_policy.specs.Aim.{Target, lighter}
+use Rattle.flat_policy.specs.Policy.Aim.{Target, lighter}
 use Rattle.flat_policy.specs.Laws.Choice.{OrdersMembers}
 use Rattle.flat_policy.specs.Laws.Orders.{LanesInOrder}
-use Rattle.flat_policy.specs.Queue.{Flat, LaneWindow, timeshare_lanes}
-use Rattle.flat_policy.specs.Windows.{stands_higher}
+use Rattle.flat_policy.specs.Policy.Queue.{Flat, LaneState, timeshare_lanes}
+use Rattle.flat_policy.specs.Policy.Windows.{stands_higher}
 use Rattle.flat_policy.proofs.Ascending.{Ascends, numbers_ascend, same_from_number}
 use Rattle.flat_policy.proofs.Chosen.{due_strict, higher_irreflexive, higher_transitive}
 use Rattle.flat_policy.proofs.KeptLanes.{lane_names}
@@ -17,13 +17,13 @@ use Rattle.flat_policy.proofs.Lexical.{by_number_irreflexive, less_transitive, n
 abbrev lane_number : Lane → ℕ
 lane_number l = index l.bucket * 2 + cond l.bound 0 1
 
-map_map_numbers : (ls : List LaneWindow) → map (λ (l : LaneWindow). lane_number l.lane) ls ≡ map lane_number (lane_names ls)
+map_map_numbers : (ls : List LaneState) → map (λ (l : LaneState). lane_number l.lane) ls ≡ map lane_number (lane_names ls)
 map_map_numbers [] = refl
 map_map_numbers (l ∷ ls) = ap (λ ns. lane_number l.lane ∷ ns) (map_map_numbers ls)
 
-same_window : (ls : List LaneWindow) → lane_names ls ≡ timeshare_lanes → (x y : LaneWindow) → Contains ls x → Contains ls y → lane_number x.lane ≡ lane_number y.lane → x ≡ y
+same_window : (ls : List LaneState) → lane_names ls ≡ timeshare_lanes → (x y : LaneState) → Contains ls x → Contains ls y → lane_number x.lane ≡ lane_number y.lane → x ≡ y
 same_window ls ten x y c d same =
-    same_from_number (λ (l : LaneWindow). lane_number l.lane) ls
+    same_from_number (λ (l : LaneState). lane_number l.lane) ls
     (subst Ascends (sym (map_map_numbers ls ∙ ap (λ names. map lane_number names) ten)) (numbers_ascend 2 10))
     x y c d same
 

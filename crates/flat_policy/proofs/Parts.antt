@@ -3,9 +3,9 @@ use Rattle.std.proofs.Common.{◌≡◌, ◌≢◌, ℕ, ◌+◌, ◌*◌, ◌<�
 use Rattle.std.specs.List.{list_any}
 use Rattle.std.proofs.lemmas.Bool.{cases_Bool, cond-true, cond-false}
 use Rattle.std.proofs.lemmas.List.Elements.{Contains-push_cases}
-use Rattle.flat_policy.specs.Queue.{Clutch, Flat, LaneWindow, Queued, clutch_place, in_clutch, timeshare_lanes}
-use Rattle.flat_policy.specs.Usage.{Spans}
-use Rattle.flat_policy.specs.WellFormed.{ArrivalsRise, EachQueued, HasOrderNumber, TurnBelow, TurnsDiffer, WellFormed, WellFormedWithin}
+use Rattle.flat_policy.specs.Policy.Queue.{Clutch, Flat, LaneState, Queued, clutch_place, in_clutch, timeshare_lanes}
+use Rattle.flat_policy.specs.Policy.Usage.{Spans}
+use Rattle.flat_policy.specs.Policy.WellFormed.{ArrivalsRise, EachQueued, HasOrderNumber, TurnBelow, TurnsDiffer, WellFormed, WellFormedWithin}
 use Rattle.flat_policy.proofs.Entries.{each_from_members, each_member}
 use Rattle.flat_policy.proofs.KeptLanes.{lane_names}
 use Rattle.flat_policy.proofs.Members.{member_of_filter}
@@ -36,7 +36,7 @@ abbrev pub TurnsStandBut : ℕ → Clutch → List (Option ℕ) → List Queued 
 TurnsStandBut groups but turns es = (k : Clutch) → k ≢ but → k.group < groups → is_some (turn_in turns k) ≡ list_any (in_clutch k) es
 
 -- all of a well-formed queue, except how many entries it has
-pub record Parts (groups : ℕ) (entries : List Queued) (spans : List Spans) (turns : List (Option ℕ)) (lanes : List LaneWindow) (next_arrival next_turn : ℕ) : Type 0 where
+pub record Parts (groups : ℕ) (entries : List Queued) (spans : List Spans) (turns : List (Option ℕ)) (lanes : List LaneState) (next_arrival next_turn : ℕ) : Type 0 where
   pub entries_fit : EntriesFit groups next_arrival entries
   pub turns_fit : TurnsFit groups next_turn turns
   pub turns_stand : TurnsStand groups turns entries

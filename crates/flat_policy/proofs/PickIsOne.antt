@@ -5,11 +5,11 @@ use Rattle.std.proofs.lemmas.Option.{same_Some, option_and_then_some}
 use Rattle.bucket_tables.specs.declared.Lane.{Lane}
 use Rattle.flat_policy.specs.declared.setup.Times.{Times}
 use Rattle.flat_policy.specs.Laws.Picks.{ChoosesFilled, IsPick, PicksOne}
-use Rattle.flat_policy.specs.Moves.{goes_before, pick, pick_in}
-use Rattle.flat_policy.specs.Queue.{Flat, Queued, has_entries, in_lane, lane_entries}
-use Rattle.flat_policy.specs.Unpreceded.{IsUnpreceded, unpreceded}
-use Rattle.flat_policy.specs.WellFormed.{WellFormed}
-use Rattle.flat_policy.specs.Windows.{Choice, chosen, expired}
+use Rattle.flat_policy.specs.Policy.Moves.{goes_before, pick, pick_in}
+use Rattle.flat_policy.specs.Policy.Queue.{Flat, Queued, has_entries, in_lane, lane_entries}
+use Rattle.flat_policy.specs.Policy.Unpreceded.{IsUnpreceded, unpreceded}
+use Rattle.flat_policy.specs.Policy.WellFormed.{WellFormed}
+use Rattle.flat_policy.specs.Policy.Windows.{Choice, chosen, expired}
 use Rattle.flat_policy.proofs.Choice.{chosen_from_unpreceded, is_unpreceded, only_one, strict_from_order, there_under_strict}
 use Rattle.flat_policy.proofs.Chosen.{has_from_member}
 use Rattle.flat_policy.proofs.ChosenLane.{chooses_filled}

@@ -3,10 +3,10 @@ use Rattle.std.proofs.Common.{◌≡◌, true, false, not, ◌&&◌, ◌||◌, s
 use Rattle.std.proofs.lemmas.Bool.{cases_Bool, false≢true, and_left}
 use Rattle.std.proofs.lemmas.List.Elements.{All-contains}
 use Rattle.bucket_tables.specs.declared.Lane.{Lane}
-use Rattle.flat_policy.specs.Moves.{goes_before}
-use Rattle.flat_policy.specs.Precedence.{precedes_in_lane}
-use Rattle.flat_policy.specs.Queue.{Flat, Queued, has_entries, in_lane, lane_entries}
-use Rattle.flat_policy.specs.Unpreceded.{IsUnpreceded}
+use Rattle.flat_policy.specs.Policy.Moves.{goes_before}
+use Rattle.flat_policy.specs.Policy.Precedence.{precedes_in_lane}
+use Rattle.flat_policy.specs.Policy.Queue.{Flat, Queued, has_entries, in_lane, lane_entries}
+use Rattle.flat_policy.specs.Policy.Unpreceded.{IsUnpreceded}
 use Rattle.flat_policy.proofs.Members.{all_from_members, filter_has, member_from_any, member_of_filter}
 
 -- an entry outside the lane goes before none, and one in the lane goes before each outside

@@ -3,10 +3,10 @@ use Rattle.std.proofs.Common.{◌≡◌, ℕ, ◌+◌, ◌<◌, ◌==◌, Bool, 
 use Rattle.std.proofs.lemmas.Bool.{cond-false, cond-true}
 use Rattle.std.proofs.lemmas.List.Sums.{sum_by-cons, sum_by-set}
 use Rattle.sched_base.specs.declared.Facts.{Facts}
-use Rattle.flat_policy.specs.Machine.{Game, Hand, Sleeper, Yard, count_held, count_in_yard, count_queued, flat_at, hand_at, holds, no_hand, place_count, with_flat, with_hand, with_yard}
-use Rattle.flat_policy.specs.Moves.{without}
-use Rattle.flat_policy.specs.Queue.{Flat, Queued, empty_flat}
-use Rattle.flat_policy.specs.WellFormed.{ArrivalsRise, EachQueued}
+use Rattle.flat_policy.specs.Policy.Machine.{MachineState, Hand, Sleeper, Yard, count_held, count_in_yard, count_queued, flat_at, hand_at, holds, no_hand, place_count, with_flat, with_hand, with_yard}
+use Rattle.flat_policy.specs.Policy.Moves.{without}
+use Rattle.flat_policy.specs.Policy.Queue.{Flat, Queued, empty_flat}
+use Rattle.flat_policy.specs.Policy.WellFormed.{ArrivalsRise, EachQueued}
 use Rattle.flat_policy.proofs.Entries.{each_member}
 use Rattle.flat_policy.proofs.Members.{contains_cases, contains_none}
 
@@ -24,7 +24,7 @@ held_by_test p h = cond (passes p h.thread) 1 0
 abbrev pub yard_by : (ℕ → Bool) → Yard → ℕ
 yard_by p y = count_by (λ (w : Sleeper). p w.facts.name) y.blocked + count_by (λ n. p n) y.ended
 
-abbrev pub placed : (ℕ → Bool) → Game → ℕ
+abbrev pub placed : (ℕ → Bool) → MachineState → ℕ
 placed p g = sum_by (queued_by p) g.flats + sum_by (held_by_test p) g.hands + yard_by p g.yard
 
 -- the count of one name is the count of the test for it
@@ -36,18 +36,18 @@ held_alike : (name : ℕ) (t : Option Facts) → holds name t ≡ passes (λ n. 
 held_alike name None = refl
 held_alike name (Some t) = refl
 
-pub placed_name : (g : Game) (name : ℕ) → place_count g name ≡ placed (λ n. n == name) g
+pub placed_name : (g : MachineState) (name : ℕ) → place_count g name ≡ placed (λ n. n == name) g
 placed_name g name =
     ap (λ m. sum_by (count_queued name) g.flats + m + count_in_yard name g.yard)
     (sum_by_alike (count_held name) (held_by_test (λ n. n == name)) g.hands (λ (h : Hand). ap (λ b. cond b 1 0) (held_alike name h.thread)))
 
 -- one hand and one queue change, or one hand and the yard
-pub placed_hand_flat : (p : ℕ → Bool) (g : Game) (a c : ℕ) (h : Hand) (s : Flat) → a < length g.hands → c < length g.flats
+pub placed_hand_flat : (p : ℕ → Bool) (g : MachineState) (a c : ℕ) (h : Hand) (s : Flat) → a < length g.hands → c < length g.flats
     → placed p (with_hand a h (with_flat c s g)) + (queued_by p (flat_at g c) + held_by_test p (hand_at g a)) ≡ placed p g + (queued_by p s + held_by_test p h)
 placed_hand_flat p g a c h s ain cin =
     omega (arith, sum_by-set (queued_by p) g.flats c s (empty_flat 0) cin, sum_by-set (held_by_test p) g.hands a h no_hand ain)
 
-pub placed_hand_yard : (p : ℕ → Bool) (g : Game) (a : ℕ) (h : Hand) (y : Yard) → a < length g.hands
+pub placed_hand_yard : (p : ℕ → Bool) (g : MachineState) (a : ℕ) (h : Hand) (y : Yard) → a < length g.hands
     → placed p (with_hand a h (with_yard y g)) + (yard_by p g.yard + held_by_test p (hand_at g a)) ≡ placed p g + (yard_by p y + held_by_test p h)
 placed_hand_yard p g a h y ain =
     omega (arith, sum_by-set (held_by_test p) g.hands a h no_hand ain)

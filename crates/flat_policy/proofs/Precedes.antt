@@ -1,9 +1,9 @@
 -- In one unit the entries of a queue stand in a strict order.
 use Rattle.std.proofs.Common.{◌≡◌, true, false, Contains, List, int_lt}
 use Rattle.flat_policy.specs.Laws.Choice.{OrdersMembers}
-use Rattle.flat_policy.specs.Precedence.{precedes}
-use Rattle.flat_policy.specs.Queue.{Queued}
-use Rattle.flat_policy.specs.WellFormed.{ArrivalsRise, EachQueued, HasOrderNumber}
+use Rattle.flat_policy.specs.Policy.Precedence.{precedes}
+use Rattle.flat_policy.specs.Policy.Queue.{Queued}
+use Rattle.flat_policy.specs.Policy.WellFormed.{ArrivalsRise, EachQueued, HasOrderNumber}
 use Rattle.flat_policy.proofs.Entries.{arrival_from_order, each_member, same_from_arrival}
 use Rattle.flat_policy.proofs.Lexical.{by_number_irreflexive, falls_total, falls_transitive, int_irreflexive, int_total, int_transitive}
 

@@ -3,11 +3,11 @@ use Rattle.std.proofs.Common.{◌≡◌, ℕ, ◌+◌, ◌==◌, Bool, false, �
 use Rattle.std.specs.List.{list_any}
 use Rattle.std.proofs.lemmas.Bool.{cond_both, false≢true, true_from_ne_false}
 use Rattle.sched_base.specs.declared.Facts.{Facts}
-use Rattle.flat_policy.specs.Moves.{with_next_turn}
-use Rattle.flat_policy.specs.Precedence.{clutch_priority, greatest_pri}
-use Rattle.flat_policy.specs.Queue.{Clutch, Flat, Queued, clutch_place, in_clutch, no_spans}
-use Rattle.flat_policy.specs.Refresh.{all_clutches, refreshed, repriced, turn_on_refresh, with_new_prices}
-use Rattle.flat_policy.specs.Usage.{Spans, score}
+use Rattle.flat_policy.specs.Policy.Moves.{with_next_turn}
+use Rattle.flat_policy.specs.Policy.Precedence.{clutch_priority, greatest_pri}
+use Rattle.flat_policy.specs.Policy.Queue.{Clutch, Flat, Queued, clutch_place, in_clutch, no_spans}
+use Rattle.flat_policy.specs.Policy.Refresh.{all_clutches, refreshed, repriced, turn_on_refresh, with_new_prices}
+use Rattle.flat_policy.specs.Policy.Usage.{Spans, score}
 use Rattle.flat_policy.proofs.Greatest.{filter_none}
 use Rattle.flat_policy.proofs.Parts.{PartsOf, map_fits}
 use Rattle.flat_policy.proofs.Refreshes.{clutch_grouped, fold_keeps, repriced_facts, repriced_keeps}

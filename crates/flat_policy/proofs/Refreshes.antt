@@ -6,12 +6,12 @@ use Rattle.sched_base.specs.declared.Facts.{Facts}
 use Rattle.bucket_tables.specs.declared.Lane.{Lane}
 use Rattle.flat_policy.specs.declared.lanes.Kind.{Kind}
 use Rattle.flat_policy.specs.declared.setup.Times.{Times}
-use Rattle.flat_policy.specs.Moves.{removed_by_selection, selected_by}
-use Rattle.flat_policy.specs.Queue.{Clutch, Flat, Queued, unit_entries}
-use Rattle.flat_policy.specs.Refresh.{all_clutches, clutches_of, is_ui, repriced}
-use Rattle.flat_policy.specs.Setup.{all_buckets, numbers_below, numbers_from}
-use Rattle.flat_policy.specs.Usage.{decay, priority}
-use Rattle.flat_policy.specs.Windows.{Choice, window_after, windows_after}
+use Rattle.flat_policy.specs.Policy.Moves.{removed_by_selection, selected_by}
+use Rattle.flat_policy.specs.Policy.Queue.{Clutch, Flat, Queued, unit_entries}
+use Rattle.flat_policy.specs.Policy.Refresh.{all_clutches, clutches_of, is_ui, repriced}
+use Rattle.flat_policy.specs.Policy.Setup.{all_buckets, numbers_below, numbers_from}
+use Rattle.flat_policy.specs.Policy.Usage.{decay, priority}
+use Rattle.flat_policy.specs.Policy.Windows.{Choice, window_after, windows_after}
 use Rattle.flat_policy.proofs.Chosen.{member_of_map}
 use Rattle.flat_policy.proofs.KeptLanes.{at_lane_keeps, window_keeps}
 use Rattle.flat_policy.proofs.Leaves.{removed_by_selection_fits}

@@ -9,9 +9,9 @@ use Rattle.sched_base.specs.declared.Entry.{Entry}
 use Rattle.sched_base.specs.declared.Step.{Step}
 use Rattle.flat_policy.specs.Laws.Counts.{EachNameOnce, StaysWithin}
 use Rattle.flat_policy.specs.Laws.Sound.{FlatFits, HandFits, Sound}
-use Rattle.flat_policy.specs.Machine.{GRun, Game, RunsFrom, empty_game, empty_hand, expected_count, fits_step, flat_at, live_count, no_hand, state_after}
-use Rattle.flat_policy.specs.Queue.{Flat, empty_flat}
-use Rattle.flat_policy.specs.Setup.{SetupParts, actor_count, cluster_count, group_count}
+use Rattle.flat_policy.specs.Policy.Machine.{GRun, MachineState, RunsFrom, empty_machine, empty_hand, expected_count, fits_step, flat_at, live_count, no_hand, state_after}
+use Rattle.flat_policy.specs.Policy.Queue.{Flat, empty_flat}
+use Rattle.flat_policy.specs.Policy.Setup.{SetupParts, actor_count, cluster_count, group_count}
 use Rattle.flat_policy.proofs.Accepted.{step_goes}
 use Rattle.flat_policy.proofs.Members.{contains_none}
 use Rattle.flat_policy.proofs.Parts.{well_formed_from}
@@ -20,7 +20,7 @@ use Rattle.flat_policy.proofs.SoundParts.{Goes, OncePlaced, empty_hand_fits, fla
 use Rattle.flat_policy.proofs.StepsKeep.{empty_parts}
 
 -- the state before any step
-pub empty_sound : (setup : SetupParts) → Sound setup (empty_game setup)
+pub empty_sound : (setup : SetupParts) → Sound setup (empty_machine setup)
 empty_sound setup = record {
   flats_length = length-replicate (cluster_count setup) (empty_flat (group_count setup));
   hands_length = length-replicate (actor_count setup) (empty_hand setup 0);
@@ -30,7 +30,7 @@ empty_sound setup = record {
   yard = λ w c. absurd (contains_none w c);
 }
 
-empty_placed : (setup : SetupParts) (p : ℕ → Bool) → placed p (empty_game setup) ≡ 0
+empty_placed : (setup : SetupParts) (p : ℕ → Bool) → placed p (empty_machine setup) ≡ 0
 empty_placed setup p =
     omega (
       arith,
@@ -38,8 +38,8 @@ empty_placed setup p =
       sum_by-replicate (held_by_test p) (actor_count setup) (empty_hand setup 0),
     )
 
-empty_once : (setup : SetupParts) → EachNameOnce (empty_game setup)
-empty_once setup = λ name. placed_name (empty_game setup) name ∙ empty_placed setup (λ n. n == name)
+empty_once : (setup : SetupParts) → EachNameOnce (empty_machine setup)
+empty_once setup = λ name. placed_name (empty_machine setup) name ∙ empty_placed setup (λ n. n == name)
 
 -- a name made once is expected once more
 abbrev one_of : Bool → ℕ
@@ -56,7 +56,7 @@ expected_more made m n fresh =
     add_fresh (list_any (λ k. k == n) (made ++ m ∷ [])) (list_any (λ k. k == n) made) (m == n) (list_any-append (λ k. k == n) made (m ∷ []))
     (λ e. subst (λ k. list_any (λ j. j == k) made ≡ false) (eqb-true m n e) fresh)
 
-expected_step : (g after : Game) (names : List ℕ) → after.yard.made ≡ g.yard.made ++ names → ((names ≡ []) ⊎ ((n : ℕ) × (names ≡ n ∷ []) × (list_any (λ m. m == n) g.yard.made ≡ false)))
+expected_step : (g after : MachineState) (names : List ℕ) → after.yard.made ≡ g.yard.made ++ names → ((names ≡ []) ⊎ ((n : ℕ) × (names ≡ n ∷ []) × (list_any (λ m. m == n) g.yard.made ≡ false)))
     → (name : ℕ) → expected_count after name ≡ expected_count g name + count_by (λ n. n == name) names
 expected_step g after names made (inl none) name =
     let same : after.yard.made ≡ g.yard.made = made ∙ (ap (λ ns. g.yard.made ++ ns) none ∙ append-nil g.yard.made) in
@@ -69,10 +69,10 @@ one_at_most : (b : Bool) → one_of b ≤ 1
 one_at_most true = omega arith
 one_at_most false = omega arith
 
-once_from : (g : Game) → EachNameOnce g → OncePlaced g
+once_from : (g : MachineState) → EachNameOnce g → OncePlaced g
 once_from g each n = omega (arith, placed_name g n, each n, one_at_most (list_any (λ m. m == n) g.yard.made))
 
-once_after : (setup : SetupParts) (g after : Game) → EachNameOnce g → Goes setup g after → EachNameOnce after
+once_after : (setup : SetupParts) (g after : MachineState) → EachNameOnce g → Goes setup g after → EachNameOnce after
 once_after setup g after each go = λ name.
     omega (
       arith,
@@ -83,14 +83,14 @@ once_after setup g after each go = λ name.
       expected_step g after go.names go.made go.fresh name,
     )
 
-pub steps_keep_sound_is : (setup : SetupParts) (g : Game) (step : Step) → Sound setup g → fits_step setup step ≡ true → Sound setup (state_after setup g step)
+pub steps_keep_sound_is : (setup : SetupParts) (g : MachineState) (step : Step) → Sound setup g → fits_step setup step ≡ true → Sound setup (state_after setup g step)
 steps_keep_sound_is setup g step sound fits = (step_goes setup g step sound fits).sound
 
-pub steps_keep_counts_is : (setup : SetupParts) (g : Game) (step : Step) → Sound setup g → EachNameOnce g → fits_step setup step ≡ true → EachNameOnce (state_after setup g step)
+pub steps_keep_counts_is : (setup : SetupParts) (g : MachineState) (step : Step) → Sound setup g → EachNameOnce g → fits_step setup step ≡ true → EachNameOnce (state_after setup g step)
 steps_keep_counts_is setup g step sound each fits = once_after setup g (state_after setup g step) each (step_goes setup g step sound fits)
 
 -- what a run keeps
-pub record Reached (setup : SetupParts) (g : Game) : Type 0 where
+pub record Reached (setup : SetupParts) (g : MachineState) : Type 0 where
   pub sound : Sound setup g
   pub once : EachNameOnce g
   pub total : placed (λ n. true) g ≡ length g.yard.made
@@ -100,7 +100,7 @@ count_all : {X : Type 0} (xs : List X) → count_by (λ x. true) xs ≡ length x
 count_all [] = refl
 count_all (x ∷ xs) = omega (arith, sum_by-cons (λ y. 1) x xs, count_all xs)
 
-reached_after : (setup : SetupParts) (g after : Game) → Reached setup g → Goes setup g after → Reached setup after
+reached_after : (setup : SetupParts) (g after : MachineState) → Reached setup g → Goes setup g after → Reached setup after
 reached_after setup g after r go = record {
   sound = go.sound;
   once = once_after setup g after r.once go;
@@ -108,12 +108,12 @@ reached_after setup g after r go = record {
   live = go.live r.live;
 }
 
-run_reached : (setup : SetupParts) (g : Game) (es : List Entry) (end : Game) → Reached setup g → RunsFrom setup g es end → Reached setup end
+run_reached : (setup : SetupParts) (g : MachineState) (es : List Entry) (end : MachineState) → Reached setup g → RunsFrom setup g es end → Reached setup end
 run_reached setup g [] end r run = subst (Reached setup) (sym run) r
 run_reached setup g (e ∷ es) end r run =
     run_reached setup (state_after setup g e.step) es end (reached_after setup g (state_after setup g e.step) r (step_goes setup g e.step r.sound run.0)) run.2
 
-empty_reached : (setup : SetupParts) → Reached setup (empty_game setup)
+empty_reached : (setup : SetupParts) → Reached setup (empty_machine setup)
 empty_reached setup = record {
   sound = empty_sound setup;
   once = empty_once setup;
@@ -121,14 +121,14 @@ empty_reached setup = record {
   live = omega arith;
 }
 
-pub reached : (setup : SetupParts) (history : List Entry) (end : Game) → GRun setup history end → Reached setup end
-reached setup history end run = run_reached setup (empty_game setup) history end (empty_reached setup) run
+pub reached : (setup : SetupParts) (history : List Entry) (end : MachineState) → GRun setup history end → Reached setup end
+reached setup history end run = run_reached setup (empty_machine setup) history end (empty_reached setup) run
 
 -- all threads that stand in queues, together, are alive
-queued_all : (g : Game) → sum_by (λ (s : Flat). length s.entries) g.flats ≡ sum_by (queued_by (λ n. true)) g.flats
+queued_all : (g : MachineState) → sum_by (λ (s : Flat). length s.entries) g.flats ≡ sum_by (queued_by (λ n. true)) g.flats
 queued_all g = sum_by_alike (λ (s : Flat). length s.entries) (queued_by (λ n. true)) g.flats (λ (s : Flat). sym (count_all s.entries))
 
-pub stays_within : (setup : SetupParts) (g : Game) → Reached setup g → StaysWithin setup g
+pub stays_within : (setup : SetupParts) (g : MachineState) → Reached setup g → StaysWithin setup g
 stays_within setup g r =
     let live : live_count g.yard ≤ setup.threads = omega (arith, r.live) in
     let queued : sum_by (λ (s : Flat). length s.entries) g.flats ≤ live_count g.yard = omega (arith, r.total, queued_all g, count_all g.yard.ended) in

@@ -3,11 +3,11 @@ use Rattle.std.proofs.Common.{List, ap, length, map, refl, subst, sum_by, sym, t
 use Rattle.std.proofs.lemmas.List.{length-map}
 use Rattle.std.proofs.lemmas.Simd.{map-map}
 use Rattle.flat_policy.proofs.SetupRows.{sum_cpus}
-use Rattle.flat_policy.specs.IsSetup.{IsSetup}
-use Rattle.flat_policy.specs.Ranges.{cluster_of_row, edge_of_row, nth}
-use Rattle.flat_policy.specs.RowParts.{parts_of_rows}
-use Rattle.flat_policy.specs.Setup.{ClusterParts, SetupParts, actor_count}
-use Rattle.flat_policy.specs.SetupInside.{IsInside, inside_parts, parts_of_size, row_times, size_of_row, times_of_cluster}
+use Rattle.flat_policy.specs.Policy.BuiltSetups.{IsSetup}
+use Rattle.flat_policy.specs.Policy.Ranges.{cluster_of_row, edge_of_row, nth}
+use Rattle.flat_policy.specs.Representation.RowParts.{parts_of_rows}
+use Rattle.flat_policy.specs.Policy.Setup.{ClusterParts, SetupParts, actor_count}
+use Rattle.flat_policy.specs.Representation.SetupInside.{IsInside, inside_parts, parts_of_size, row_times, size_of_row, times_of_cluster}
 use Rattle.flat_policy.specs.declared.setup.EdgeSpec.{EdgeSpec}
 use Rattle.flat_policy.specs.declared.setup.Setup.TheInside.{Inside}
 use Rattle.flat_policy.specs.declared.setup.Times.{Times}

@@ -5,8 +5,8 @@ use Rattle.std.specs.List.{list_any}
 use Rattle.std.proofs.lemmas.Bool.{eq-eqb}
 use Rattle.std.proofs.lemmas.List.{get_or-map, length-map}
 use Rattle.flat_policy.proofs.SetupFields.{both}
-use Rattle.flat_policy.specs.IsSetup.{OtherEnds}
-use Rattle.flat_policy.specs.Ranges.{edge_of_row, ends_differ, nth, same_ends}
+use Rattle.flat_policy.specs.Policy.BuiltSetups.{OtherEnds}
+use Rattle.flat_policy.specs.Policy.Ranges.{edge_of_row, ends_differ, nth, same_ends}
 
 list_any_step : {X : Type 0} (p : X → Bool) (b : Bool) (xs : List X) → not (b || list_any p xs) ≡ true → (b ≡ false) × (not (list_any p xs) ≡ true)
 list_any_step p true xs h = absurd (cc)

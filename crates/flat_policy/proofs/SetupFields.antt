@@ -4,8 +4,8 @@ use Rattle.std.specs.Prelude.{◌==◌, nat_le, nat_lt}
 use Rattle.std.specs.List.{list_all}
 use Rattle.std.proofs.lemmas.Bool.{eq-eqb, leb-true, ltb-true}
 use Rattle.std.proofs.lemmas.List.Sums.{sum_by-cons}
-use Rattle.flat_policy.specs.IsSetup.{IsCluster, IsEdge}
-use Rattle.flat_policy.specs.Ranges.{Ranged, all_below, between, cluster_of_row, clusters_in_range, common_ranges, edge_of_row, edges_in_range, ends_differ, first_out, groups_in_range, is_cluster_row, is_edge_row, nth, ranged, threads_in_range}
+use Rattle.flat_policy.specs.Policy.BuiltSetups.{IsCluster, IsEdge}
+use Rattle.flat_policy.specs.Policy.Ranges.{Ranged, all_below, between, cluster_of_row, clusters_in_range, common_ranges, edge_of_row, edges_in_range, ends_differ, first_out, groups_in_range, is_cluster_row, is_edge_row, nth, ranged, threads_in_range}
 use Rattle.flat_policy.specs.declared.setup.Field.{Field}
 use Rattle.flat_policy.specs.declared.setup.Field.TheVariants as fields
 

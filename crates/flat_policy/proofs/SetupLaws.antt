@@ -5,9 +5,9 @@ use Rattle.std.proofs.lemmas.Option.{slice_get-get_or}
 use Rattle.sched_base.specs.Bucket.{index}
 use Rattle.sched_base.specs.declared.Bucket.{Bucket}
 use Rattle.flat_policy.proofs.SetupTimes.{index_below}
-use Rattle.flat_policy.specs.IsSetup.{IsCluster, IsGroup, IsSetup}
-use Rattle.flat_policy.specs.Setup.{ClusterParts, SetupParts, cluster_count, cpus_of, group_count, preferred_cluster, rate_of}
-use Rattle.flat_policy.specs.SetupInside.{IsInside, inside_parts, parts_of_size}
+use Rattle.flat_policy.specs.Policy.BuiltSetups.{IsCluster, IsGroup, IsSetup}
+use Rattle.flat_policy.specs.Policy.Setup.{ClusterParts, SetupParts, cluster_count, cpus_of, group_count, preferred_cluster, rate_of}
+use Rattle.flat_policy.specs.Representation.SetupInside.{IsInside, inside_parts, parts_of_size}
 use Rattle.flat_policy.specs.declared.setup.ClusterSize.{ClusterSize}
 use Rattle.flat_policy.specs.declared.setup.Setup.TheInside.{Inside}
 

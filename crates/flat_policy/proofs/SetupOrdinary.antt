@@ -7,8 +7,8 @@ use Rattle.std.proofs.lemmas.Bool.{eq-eqb}
 use Rattle.std.proofs.lemmas.List.{length-replicate, take-replicate}
 use Rattle.flat_policy.proofs.SetupFields.{clusters_pass, head_in}
 use Rattle.flat_policy.proofs.SetupTimeRows.{ordinary_times}
-use Rattle.flat_policy.specs.Ranges.{clusters_in_range, common_ranges, first_out_of_range, is_times_row, parts_of, ranged, times_in_range}
-use Rattle.flat_policy.specs.RowParts.{ordinary_rows, parts_of_rows}
+use Rattle.flat_policy.specs.Policy.Ranges.{clusters_in_range, common_ranges, first_out_of_range, is_times_row, parts_of, ranged, times_in_range}
+use Rattle.flat_policy.specs.Representation.RowParts.{ordinary_rows, parts_of_rows}
 use Rattle.flat_policy.specs.declared.setup.Field.TheVariants as fields
 
 -- the test holds of each copy

@@ -8,11 +8,11 @@ use Rattle.flat_policy.proofs.SetupEdges.{all_ends}
 use Rattle.flat_policy.proofs.SetupFields.{between_true, both, clusters_pass, edge_row, edges_pass, groups_pass, in_range, list_all_true}
 use Rattle.flat_policy.proofs.SetupRows.{all_clusters, all_edges, all_groups, all_map, sum_cpus}
 use Rattle.flat_policy.proofs.SetupTimeRows.{cluster_times_pass, ordinary_times}
-use Rattle.flat_policy.specs.IsSetup.{IsClusterTimes, IsSetup}
-use Rattle.flat_policy.specs.Ranges.{cluster_of_row, common_ranges, edge_of_row, first_out, is_edge_row, is_times_row, times_in_range}
-use Rattle.flat_policy.specs.RowParts.{IsVersion, parts_of_rows}
-use Rattle.flat_policy.specs.Setup.{all_buckets, times_of_version_one}
-use Rattle.flat_policy.specs.SetupInside.{FitsEdge, HasSixes, times_of_cluster}
+use Rattle.flat_policy.specs.Policy.BuiltSetups.{IsClusterTimes, IsSetup}
+use Rattle.flat_policy.specs.Policy.Ranges.{cluster_of_row, common_ranges, edge_of_row, first_out, is_edge_row, is_times_row, times_in_range}
+use Rattle.flat_policy.specs.Representation.RowParts.{IsVersion, parts_of_rows}
+use Rattle.flat_policy.specs.Policy.Setup.{all_buckets, times_of_version_one}
+use Rattle.flat_policy.specs.Representation.SetupInside.{FitsEdge, HasSixes, times_of_cluster}
 
 -- one of the two versions
 which : (version : ℕ) (times : List (List (List ℕ))) → IsVersion version times → (version ≡ 1) ⊎ (version ≡ 2)

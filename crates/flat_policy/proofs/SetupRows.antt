@@ -6,10 +6,10 @@ use Rattle.std.proofs.lemmas.Bool.{ltb-true}
 use Rattle.std.proofs.lemmas.List.Folds.{fold-map}
 use Rattle.std.proofs.lemmas.List.{get_or-map, get_or_default, length-map}
 use Rattle.flat_policy.proofs.SetupFields.{cluster_row, edge_row, list_all_true}
-use Rattle.flat_policy.specs.IsSetup.{IsCluster, IsEdge, IsGroup}
-use Rattle.flat_policy.specs.Ranges.{all_below, cluster_of_row, edge_of_row, is_cluster_row, is_edge_row, nth}
-use Rattle.flat_policy.specs.Setup.{ClusterParts}
-use Rattle.flat_policy.specs.SetupInside.{HasSixes}
+use Rattle.flat_policy.specs.Policy.BuiltSetups.{IsCluster, IsEdge, IsGroup}
+use Rattle.flat_policy.specs.Policy.Ranges.{all_below, cluster_of_row, edge_of_row, is_cluster_row, is_edge_row, nth}
+use Rattle.flat_policy.specs.Policy.Setup.{ClusterParts}
+use Rattle.flat_policy.specs.Representation.SetupInside.{HasSixes}
 
 -- lists of one length, for every default
 pub lengths_for_all : {X : Type 0} (xss : List (List X)) (n : ℕ) →

@@ -5,11 +5,11 @@ use Rattle.std.specs.List.{list_all}
 use Rattle.std.proofs.lemmas.Bool.{eqb-true, leb-true}
 use Rattle.flat_policy.proofs.SetupFields.{between_true, both, list_all_true}
 use Rattle.flat_policy.proofs.SetupRows.{all_map}
-use Rattle.flat_policy.specs.IsSetup.{IsClusterTimes, IsTimes}
-use Rattle.flat_policy.specs.Ranges.{between, is_times_row, nth, row_of_times, times_of_rows}
-use Rattle.flat_policy.specs.RowParts.{ordinary_rows}
-use Rattle.flat_policy.specs.Setup.{all_buckets, numbers_below, times_of_version_one}
-use Rattle.flat_policy.specs.SetupInside.{HasSixes, times_of_cluster}
+use Rattle.flat_policy.specs.Policy.BuiltSetups.{IsClusterTimes, IsTimes}
+use Rattle.flat_policy.specs.Policy.Ranges.{between, is_times_row, nth, row_of_times, times_of_rows}
+use Rattle.flat_policy.specs.Representation.RowParts.{ordinary_rows}
+use Rattle.flat_policy.specs.Policy.Setup.{all_buckets, numbers_below, times_of_version_one}
+use Rattle.flat_policy.specs.Representation.SetupInside.{HasSixes, times_of_cluster}
 
 -- the numbers below six
 number_small : (k : ℕ) → get_or (0 ∷ 1 ∷ 2 ∷ 3 ∷ 4 ∷ 5 ∷ []) k 0 < 6

@@ -4,9 +4,9 @@ use Rattle.std.proofs.lemmas.List.{get_or-map, get_or-take, length-map}
 use Rattle.sched_base.specs.Bucket.{index}
 use Rattle.sched_base.specs.declared.Bucket.{Bucket}
 use Rattle.sched_base.specs.declared.Bucket.TheVariants.{Bg, Df, Fg, Ini, Ui, Ut}
-use Rattle.flat_policy.specs.IsSetup.{IsClusterTimes, IsSetup, IsTimes}
-use Rattle.flat_policy.specs.Setup.{SetupParts, cluster_count, cluster_times, no_times, times_for}
-use Rattle.flat_policy.specs.SetupInside.{IsInside, inside_parts, parts_of_size, row_times, times_in_row}
+use Rattle.flat_policy.specs.Policy.BuiltSetups.{IsClusterTimes, IsSetup, IsTimes}
+use Rattle.flat_policy.specs.Policy.Setup.{SetupParts, cluster_count, cluster_times, no_times, times_for}
+use Rattle.flat_policy.specs.Representation.SetupInside.{IsInside, inside_parts, parts_of_size, row_times, times_in_row}
 use Rattle.flat_policy.specs.declared.setup.Setup.TheInside.{Inside}
 
 -- the index of a bucket is below six

@@ -6,10 +6,10 @@ use Rattle.std.proofs.lemmas.List.{get_or-set_other, get_or-set_same, length-rep
 use Rattle.std.proofs.lemmas.List.Sums.{sum_by-cons}
 use Rattle.std.proofs.lemmas.Option.{none-some}
 use Rattle.flat_policy.specs.Laws.Sound.{FlatFits, HandFits, Sound, ThreadFits, YardFits}
-use Rattle.flat_policy.specs.Machine.{Game, Hand, Yard, empty_hand, flat_at, hand_at, no_hand, with_flat, with_hand, with_yard}
-use Rattle.flat_policy.specs.Queue.{Flat, Queued, empty_flat}
-use Rattle.flat_policy.specs.Setup.{ClusterParts, SetupParts, actor_count, cluster_count, group_count, home_among, home_of}
-use Rattle.flat_policy.specs.WellFormed.{EachQueued}
+use Rattle.flat_policy.specs.Policy.Machine.{MachineState, Hand, Yard, empty_hand, flat_at, hand_at, no_hand, with_flat, with_hand, with_yard}
+use Rattle.flat_policy.specs.Policy.Queue.{Flat, Queued, empty_flat}
+use Rattle.flat_policy.specs.Policy.Setup.{ClusterParts, SetupParts, actor_count, cluster_count, group_count, home_among, home_of}
+use Rattle.flat_policy.specs.Policy.WellFormed.{EachQueued}
 use Rattle.flat_policy.proofs.Parts.{PartsOf, parts_within, well_formed_within}
 use Rattle.flat_policy.proofs.Placed.{held_by_test, placed, placed_hand_flat, placed_hand_yard, queued_by, yard_by}
 
@@ -21,7 +21,7 @@ each_set P d n xs i x long each here j within =
       | inr other ↦ subst P (sym (get_or-set_other xs i j x d other)) (each j within)
     ]
 
-sound_hand_flat : (setup : SetupParts) (g : Game) (a c : ℕ) (h : Hand) (s : Flat) → Sound setup g → HandFits setup h → FlatFits setup s → Sound setup (with_hand a h (with_flat c s g))
+sound_hand_flat : (setup : SetupParts) (g : MachineState) (a c : ℕ) (h : Hand) (s : Flat) → Sound setup g → HandFits setup h → FlatFits setup s → Sound setup (with_hand a h (with_flat c s g))
 sound_hand_flat setup g a c h s sound hf sf = record {
   flats_length = length-set g.flats c s ∙ sound.flats_length;
   hands_length = length-set g.hands a h ∙ sound.hands_length;
@@ -30,7 +30,7 @@ sound_hand_flat setup g a c h s sound hf sf = record {
   yard = sound.yard;
 }
 
-sound_hand_yard : (setup : SetupParts) (g : Game) (a : ℕ) (h : Hand) (y : Yard) → Sound setup g → HandFits setup h → YardFits setup y → Sound setup (with_hand a h (with_yard y g))
+sound_hand_yard : (setup : SetupParts) (g : MachineState) (a : ℕ) (h : Hand) (y : Yard) → Sound setup g → HandFits setup h → YardFits setup y → Sound setup (with_hand a h (with_yard y g))
 sound_hand_yard setup g a h y sound hf yf = record {
   flats_length = sound.flats_length;
   hands_length = length-set g.hands a h ∙ sound.hands_length;
@@ -40,11 +40,11 @@ sound_hand_yard setup g a h y sound hf yf = record {
 }
 
 -- each name stands in one place at most
-abbrev pub OncePlaced : Game → Type 0
+abbrev pub OncePlaced : MachineState → Type 0
 OncePlaced g = (n : ℕ) → placed (λ m. m == n) g ≤ 1
 
 -- what a step does: the state stays sound, the names made stand in one more place each, and no other in more or fewer
-pub record Goes (setup : SetupParts) (g after : Game) : Type 0 where
+pub record Goes (setup : SetupParts) (g after : MachineState) : Type 0 where
   pub sound : Sound setup after
   pub names : List ℕ
   pub made : after.yard.made ≡ g.yard.made ++ names
@@ -52,7 +52,7 @@ pub record Goes (setup : SetupParts) (g after : Game) : Type 0 where
   pub fresh : (names ≡ []) ⊎ ((n : ℕ) × (names ≡ n ∷ []) × (list_any (λ m. m == n) g.yard.made ≡ false))
   pub live : length g.yard.made ≤ setup.threads + length g.yard.ended → length after.yard.made ≤ setup.threads + length after.yard.ended
 
-pub goes_nowhere : (setup : SetupParts) (g : Game) → Sound setup g → Goes setup g g
+pub goes_nowhere : (setup : SetupParts) (g : MachineState) → Sound setup g → Goes setup g g
 goes_nowhere setup g sound = record {
   sound = sound;
   names = [];
@@ -62,7 +62,7 @@ goes_nowhere setup g sound = record {
   live = λ h. h;
 }
 
-pub goes_flat : (setup : SetupParts) (g : Game) (a c : ℕ) (h : Hand) (s : Flat) → Sound setup g → a < actor_count setup → c < cluster_count setup → HandFits setup h → FlatFits setup s
+pub goes_flat : (setup : SetupParts) (g : MachineState) (a c : ℕ) (h : Hand) (s : Flat) → Sound setup g → a < actor_count setup → c < cluster_count setup → HandFits setup h → FlatFits setup s
     → ((p : ℕ → Bool) → queued_by p s + held_by_test p h ≡ queued_by p (flat_at g c) + held_by_test p (hand_at g a))
     → Goes setup g (with_hand a h (with_flat c s g))
 goes_flat setup g a c h s sound ain cin hf sf same = record {
@@ -74,7 +74,7 @@ goes_flat setup g a c h s sound ain cin hf sf same = record {
   live = λ h. h;
 }
 
-pub goes_yard : (setup : SetupParts) (g : Game) (a : ℕ) (h : Hand) (y : Yard) (names : List ℕ) → Sound setup g → a < actor_count setup → HandFits setup h → YardFits setup y
+pub goes_yard : (setup : SetupParts) (g : MachineState) (a : ℕ) (h : Hand) (y : Yard) (names : List ℕ) → Sound setup g → a < actor_count setup → HandFits setup h → YardFits setup y
     → (y.made ≡ g.yard.made ++ names)
     → (OncePlaced g → (p : ℕ → Bool) → yard_by p y + held_by_test p h ≡ yard_by p g.yard + held_by_test p (hand_at g a) + count_by p names)
     → ((names ≡ []) ⊎ ((n : ℕ) × (names ≡ n ∷ []) × (list_any (λ m. m == n) g.yard.made ≡ false)))

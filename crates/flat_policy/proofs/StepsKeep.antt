@@ -3,15 +3,15 @@ use Rattle.std.proofs.Common.{◌≡◌, ℕ, ◌*◌, ◌<◌, Bool, Contains, 
 use Rattle.std.proofs.lemmas.Bool.{cases_lt, cond_both}
 use Rattle.std.proofs.lemmas.List.{get_or-replicate, get_or_past, length-map, length-replicate, length_push}
 use Rattle.sched_base.specs.declared.Facts.{Facts}
-use Rattle.flat_policy.specs.ClusterSteps.{Event, facts_of, flat_after_offer, got, select_event, touched}
+use Rattle.flat_policy.specs.Policy.ClusterSteps.{Event, facts_of, flat_after_offer, got, select_event, touched}
 use Rattle.sched_base.specs.declared.Answer.TheVariants as answers
 use Rattle.flat_policy.specs.Laws.Kept.{StaysWellFormed}
-use Rattle.flat_policy.specs.Moves.{entered, new_entry, pick, removed, selected, settled_thread}
-use Rattle.flat_policy.specs.Offer.{mask_between, offered_between}
-use Rattle.flat_policy.specs.Queue.{Clutch, Flat, Queued, clutch_place, empty_flat}
-use Rattle.flat_policy.specs.Refresh.{refreshed, repriced}
-use Rattle.flat_policy.specs.Setup.{SetupParts, cluster_times, group_count, migrates}
-use Rattle.flat_policy.specs.WellFormed.{TurnBelow, TurnsDiffer, WellFormed}
+use Rattle.flat_policy.specs.Policy.Moves.{entered, new_entry, pick, removed, selected, settled_thread}
+use Rattle.flat_policy.specs.Policy.Offer.{mask_between, offered_between}
+use Rattle.flat_policy.specs.Policy.Queue.{Clutch, Flat, Queued, clutch_place, empty_flat}
+use Rattle.flat_policy.specs.Policy.Refresh.{refreshed, repriced}
+use Rattle.flat_policy.specs.Policy.Setup.{SetupParts, cluster_times, group_count, migrates}
+use Rattle.flat_policy.specs.Policy.WellFormed.{TurnBelow, TurnsDiffer, WellFormed}
 use Rattle.flat_policy.proofs.After.{entered_entries, removed_entries}
 use Rattle.flat_policy.proofs.Enters.{entered_fits}
 use Rattle.flat_policy.proofs.Kept.{after_offer_entries, after_offer_fits, fewer, offered_stands, selected_entries, selected_fits}

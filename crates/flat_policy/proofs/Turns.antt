@@ -2,8 +2,8 @@
 use Rattle.std.proofs.Common.{◌≡◌, ◌≢◌, ℕ, ◌+◌, ◌*◌, ◌<◌, List, length, Option, Some, None, is_some, set, sym, ap, ◌∙◌, subst, inl, inr, arith}
 use Rattle.std.specs.List.{list_any}
 use Rattle.std.proofs.lemmas.List.{get_or-set_other, get_or-set_same, length-set}
-use Rattle.flat_policy.specs.Queue.{Clutch, Queued, clutch_place, in_clutch}
-use Rattle.flat_policy.specs.WellFormed.{TurnBelow, TurnsDiffer}
+use Rattle.flat_policy.specs.Policy.Queue.{Clutch, Queued, clutch_place, in_clutch}
+use Rattle.flat_policy.specs.Policy.WellFormed.{TurnBelow, TurnsDiffer}
 use Rattle.flat_policy.proofs.Buckets.{cases_clutch, clutch_from_place, place_within}
 use Rattle.flat_policy.proofs.Parts.{TurnsFit, TurnsStand, TurnsStandBut, turn_in}
 

@@ -2,8 +2,8 @@
 use Rattle.std.proofs.Common.{◌≡◌, ℕ, ◌*◌, ◌<◌, Bool, true, false, ◌||◌, List, [], ◌∷◌, filter, length, Some, None, is_some, refl, sym, ap, ◌∙◌, inl, inr}
 use Rattle.std.specs.List.{list_any}
 use Rattle.std.proofs.lemmas.Bool.{cases_Bool, cond-true, cond-false, or_left}
-use Rattle.flat_policy.specs.Moves.{with_next_turn, without_turn}
-use Rattle.flat_policy.specs.Queue.{Clutch, Flat, in_clutch, timeshare_lanes}
+use Rattle.flat_policy.specs.Policy.Moves.{with_next_turn, without_turn}
+use Rattle.flat_policy.specs.Policy.Queue.{Clutch, Flat, in_clutch, timeshare_lanes}
 use Rattle.flat_policy.proofs.KeptLanes.{lane_names}
 use Rattle.flat_policy.proofs.Parts.{EntriesFit, PartsOf, TurnsFit, TurnsStandBut, turn_in}
 use Rattle.flat_policy.proofs.Turns.{next_turn_fits, no_turn_fits, right_stands, set_stands}

@@ -4,9 +4,9 @@ use Rattle.std.proofs.lemmas.Bool.{cases_Bool}
 use Rattle.flat_policy.specs.declared.lanes.Warp.{Warp}
 use Rattle.flat_policy.specs.declared.lanes.Warp.TheVariants.{Spent, Until, Unused}
 use Rattle.flat_policy.specs.declared.setup.Times.{Times}
-use Rattle.flat_policy.specs.Queue.{Flat, LaneWindow}
-use Rattle.flat_policy.specs.Windows.{expired, expired_warp, expired_window, window_over}
-use Rattle.flat_policy.specs.Setup.{times_for}
+use Rattle.flat_policy.specs.Policy.Queue.{Flat, LaneState}
+use Rattle.flat_policy.specs.Policy.Windows.{expired, expired_warp, expired_window, window_over}
+use Rattle.flat_policy.specs.Policy.Setup.{times_for}
 
 expires_warp_once : (now : ℕ) (w : Warp) → expired_warp now (expired_warp now w) ≡ expired_warp now w
 expires_warp_once now Unused = refl
@@ -22,7 +22,7 @@ pub map_twice : {X : Type 0} (f : X → X) (xs : List X) → ((x : X) → f (f x
 map_twice f [] h = refl
 map_twice f (x ∷ xs) h = rw (h x, map_twice f xs h) refl
 
-expires_window_once : (ts : List Times) (now : ℕ) (l : LaneWindow) → expired_window ts now (expired_window ts now l) ≡ expired_window ts now l
+expires_window_once : (ts : List Times) (now : ℕ) (l : LaneState) → expired_window ts now (expired_window ts now l) ≡ expired_window ts now l
 expires_window_once ts now l =
     let quantum : ℕ = (times_for ts l.lane.bucket).quantum in
     let warp_once = expires_warp_once now l.warp in

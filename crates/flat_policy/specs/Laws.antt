@@ -9,3 +9,4 @@ pub mod Sound
 pub mod Counts
 pub mod Orders
 pub mod Units
+pub mod Windows

@@ -1,7 +1,7 @@
 //! Journals: lists of lines.
 
 ghost use Rattle.std.specs.Prelude.{◌≡◌, ◌≤◌, ◌<◌, ◌+◌, ◌==◌, ◌^◌, length, slice_get, IsOk, IsErr, OnOk, OnErr};
-ghost use Rattle.flat_policy.specs.JournalParts.{IsJournal, empty_journal, pushed};
+ghost use Rattle.flat_policy.specs.Runs.Journals.{IsJournal, empty_journal, pushed};
 
 use sched_base::Entry;
 use std::alloc::{AllocError, Global};
@@ -27,7 +27,7 @@ pub struct Journal {
 
 impl Model for Journal {
     ghost use Rattle.std.specs.Prelude.{◌-◌, ◌<◌, ◌^◌, vec_capacity, vec_len};
-    ghost use Rattle.flat_policy.specs.JournalParts.{JournalParts};
+    ghost use Rattle.flat_policy.specs.Runs.Journals.{JournalParts};
 
     ghost Value = { JournalParts };
 

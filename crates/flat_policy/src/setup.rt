@@ -1,10 +1,10 @@
 //! The setup: the clusters, the edges between them, the groups and the times.
 
 ghost use Rattle.std.specs.Prelude.{◌≡◌, ◌≤◌, ◌<◌, length, map, slice_get, sum_by};
-ghost use Rattle.flat_policy.specs.Setup.{actor_count, cluster_count, cluster_times, cpus_of, group_count, home_among, home_of, preferred_cluster, rate_of, times_for};
-ghost use Rattle.flat_policy.specs.Machine.{fits_act, fits_step};
-ghost use Rattle.flat_policy.specs.IsSetup.{IsEdge, IsSetup, IsTimes};
-ghost use Rattle.flat_policy.specs.SetupInside.{parts_of_size};
+ghost use Rattle.flat_policy.specs.Policy.Setup.{actor_count, cluster_count, cluster_times, cpus_of, group_count, home_among, home_of, preferred_cluster, rate_of, times_for};
+ghost use Rattle.flat_policy.specs.Policy.Machine.{fits_act, fits_step};
+ghost use Rattle.flat_policy.specs.Policy.BuiltSetups.{IsEdge, IsSetup, IsTimes};
+ghost use Rattle.flat_policy.specs.Representation.SetupInside.{parts_of_size};
 
 mod build;
 mod lists;
@@ -103,13 +103,13 @@ pub struct Setup {
 }
 
 impl Model for Setup {
-    ghost use Rattle.flat_policy.specs.Setup.{SetupParts};
+    ghost use Rattle.flat_policy.specs.Policy.Setup.{SetupParts};
 
     ghost Value = { SetupParts };
 
     ghost use Rattle.std.specs.Prelude.{◌≡◌, length};
-    ghost use Rattle.flat_policy.specs.Setup.{actor_count};
-    ghost use Rattle.flat_policy.specs.SetupInside.{IsInside, inside_parts};
+    ghost use Rattle.flat_policy.specs.Policy.Setup.{actor_count};
+    ghost use Rattle.flat_policy.specs.Representation.SetupInside.{IsInside, inside_parts};
 
     ghost view = { inside_parts };
 

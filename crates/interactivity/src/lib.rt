@@ -5,7 +5,7 @@
 #![tactic(auto)]
 
 ghost use Rattle.std.specs.Prelude.{◌≡◌, ◌≤◌, ◌<◌, ◌^◌};
-ghost use Rattle.flat_policy.specs.Usage.{interactivity, score, with_spans};
+ghost use Rattle.flat_policy.specs.Policy.Usage.{interactivity, score, with_spans};
 
 use sched_base::Bucket;
 use std::marker::Model;
@@ -26,7 +26,7 @@ pub struct Stats {
 
 impl Model for Stats {
     ghost use Rattle.std.specs.Prelude.{◌<◌, ◌^◌};
-    ghost use Rattle.flat_policy.specs.Usage.{Spans};
+    ghost use Rattle.flat_policy.specs.Policy.Usage.{Spans};
 
     ghost Value = { Spans };
 

@@ -1,11 +1,11 @@
 -- The best target by one pass over the clusters.
 use Rattle.std.proofs.Common.{◌≡◌, ℕ, Bool, true, false, cond, List, [], ◌∷◌, Option, Some, None, filter, fold, refl, sym, ap, ◌∙◌}
 use Rattle.std.specs.List.{cons_option, filter_map}
-use Rattle.flat_policy.specs.Aim.{Look, Target, lighter, look_at, target_at, targets}
-use Rattle.flat_policy.specs.IsSetup.{IsSetup}
+use Rattle.flat_policy.specs.Policy.Aim.{Look, Target, lighter, look_at, target_at, targets}
+use Rattle.flat_policy.specs.Policy.BuiltSetups.{IsSetup}
 use Rattle.flat_policy.specs.Laws.Choice.{better}
-use Rattle.flat_policy.specs.Setup.{SetupParts, migrates, numbers_below}
-use Rattle.flat_policy.specs.Unpreceded.{unpreceded}
+use Rattle.flat_policy.specs.Policy.Setup.{SetupParts, migrates, numbers_below}
+use Rattle.flat_policy.specs.Policy.Unpreceded.{unpreceded}
 use Rattle.flat_policy.proofs.Choice.{chooses_one}
 use Rattle.flat_policy.proofs.Orders.{targets_in_order}
 use Rattle.migration.specs.Looks.{best_among, candidate_at, is_below, with_candidate, within}

@@ -3,8 +3,8 @@ use Rattle.std.proofs.Common.{◌≡◌, ◌<◌, ◌+◌, ◌&&◌, ◌||◌, �
 use Rattle.std.specs.List.{cons_option, filter_map}
 use Rattle.std.proofs.lemmas.List.{get_or-take}
 use Rattle.sched_base.specs.declared.Facts.{Facts}
-use Rattle.flat_policy.specs.Aim.{Look, Target, aim_among, aim_by, look_at, movable, needed_by, not_looked, target_at, targets}
-use Rattle.flat_policy.specs.Setup.{SetupParts, cluster_count, migrates, numbers_below, numbers_from}
+use Rattle.flat_policy.specs.Policy.Aim.{Look, Target, aim_among, aim_by, look_at, movable, needed_by, not_looked, target_at, targets}
+use Rattle.flat_policy.specs.Policy.Setup.{SetupParts, cluster_count, migrates, numbers_below, numbers_from}
 use Rattle.migration.specs.Laws.{AimGoesByClusters}
 use Rattle.migration.proofs.Best.{filter_map-cond}
 use Rattle.migration.proofs.Scans.{find-filter}

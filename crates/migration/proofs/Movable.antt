@@ -7,12 +7,12 @@ use Rattle.std.proofs.lemmas.Bool.Decides.{nat_tests}
 use Rattle.std.proofs.lemmas.List.{append-nil}
 use Rattle.std.proofs.lemmas.List.Elements.{filter-append}
 use Rattle.flat_policy.specs.declared.setup.EdgeSpec.{EdgeSpec}
-use Rattle.flat_policy.specs.Aim.{Look, look_at, movable, needed_by}
+use Rattle.flat_policy.specs.Policy.Aim.{Look, look_at, movable, needed_by}
 use Rattle.flat_policy.proofs.Greatest.{filter_none}
 use Rattle.migration.specs.Looks.{lacks_look}
 use Rattle.migration.proofs.Scans.{find-filter}
-use Rattle.flat_policy.specs.IsSetup.{IsEdge, IsSetup}
-use Rattle.flat_policy.specs.Setup.{SetupParts, cluster_count, migrates, numbers_below, numbers_from}
+use Rattle.flat_policy.specs.Policy.BuiltSetups.{IsEdge, IsSetup}
+use Rattle.flat_policy.specs.Policy.Setup.{SetupParts, cluster_count, migrates, numbers_below, numbers_from}
 
 -- an edge with other ends
 other_from : (from to i j : ℕ) → from ≢ i → ((from == i) && (to == j)) ≡ false

@@ -1,8 +1,8 @@
 -- What looks mean to an aim.
 use Rattle.std.specs.Prelude.{List, Option, take, ◌<◌, ◌≡◌}
 use Rattle.sched_base.specs.declared.Facts.{Facts}
-use Rattle.flat_policy.specs.Aim.{Look, aim, not_looked}
-use Rattle.flat_policy.specs.Setup.{SetupParts, cluster_count}
+use Rattle.flat_policy.specs.Policy.Aim.{Look, aim, not_looked}
+use Rattle.flat_policy.specs.Policy.Setup.{SetupParts, cluster_count}
 
 -- looks past the clusters of a setup decide nothing
 pub record GoesByClusters (setup : SetupParts) (looks : List (Option Look)) (t : Facts) : Type 0 where

@@ -1,8 +1,8 @@
 -- Looks, and how an aim follows from them.
 use Rattle.std.specs.Prelude.{Bool, true, Err, List, None, Ok, Option, Result, Some, fold, if◌then◌else◌, is_none, nat_lt, ◌&&◌, ◌||◌, ◌==◌, ℕ}
-use Rattle.flat_policy.specs.Aim.{Look, Target, dark, lighter, loaded, look_at, target_at}
+use Rattle.flat_policy.specs.Policy.Aim.{Look, Target, off, lighter, loaded, look_at, target_at}
 use Rattle.flat_policy.specs.Laws.Choice.{better}
-use Rattle.flat_policy.specs.Setup.{SetupParts, migrates}
+use Rattle.flat_policy.specs.Policy.Setup.{SetupParts, migrates}
 use Rattle.migration.specs.declared.looks.Note.{Note}
 use Rattle.migration.specs.declared.looks.Note.TheVariants.{Load, Off}
 use Rattle.migration.specs.declared.looks.Candidate.{Candidate}
@@ -11,7 +11,7 @@ use Rattle.migration.specs.declared.LookFirst.{LookFirst}
 -- what a note says that a look saw
 abbrev pub seen : Note → Look
 seen (Load l) = loaded l
-seen Off = dark
+seen Off = off
 
 abbrev pub noted : Option Note → Option Look
 noted None = None

@@ -2,8 +2,8 @@
 
 ghost use Rattle.std.specs.List.{list_any};
 ghost use Rattle.std.specs.Prelude.{◌≡◌, ◌<◌};
-ghost use Rattle.flat_policy.specs.Aim.{cluster_or as cluster_of, lighter};
-ghost use Rattle.flat_policy.specs.Setup.{SetupParts, migrates, numbers_below};
+ghost use Rattle.flat_policy.specs.Policy.Aim.{cluster_or as cluster_of, lighter};
+ghost use Rattle.flat_policy.specs.Policy.Setup.{SetupParts, migrates, numbers_below};
 ghost use Rattle.edge_matrix.specs.EdgeTables.{edges_of};
 ghost use Rattle.migration.specs.Looks.{is_below, target_of, targeted, with_candidate};
 
@@ -37,7 +37,7 @@ pub struct Looks {
 
 impl Model for Looks {
     ghost use Rattle.std.specs.Prelude.{List, Option, map};
-    ghost use Rattle.flat_policy.specs.Aim.{Look};
+    ghost use Rattle.flat_policy.specs.Policy.Aim.{Look};
 
     ghost Value = { List (Option Look) };
 
@@ -48,9 +48,9 @@ impl Model for Looks {
 
 impl Looks {
     ghost use Rattle.std.specs.Prelude.{◌≡◌, ◌<◌, None, Option, Some, ℕ, find, is_none, length, map, replicate, slice_set};
-    ghost use Rattle.flat_policy.specs.Aim.{aim, aim_among, dark, loaded, look_at, movable, needed_by, not_looked, targets};
-    ghost use Rattle.flat_policy.specs.IsSetup.{IsSetup};
-    ghost use Rattle.flat_policy.specs.Setup.{SetupParts, numbers_below};
+    ghost use Rattle.flat_policy.specs.Policy.Aim.{aim, aim_among, off, loaded, look_at, movable, needed_by, not_looked, targets};
+    ghost use Rattle.flat_policy.specs.Policy.BuiltSetups.{IsSetup};
+    ghost use Rattle.flat_policy.specs.Policy.Setup.{SetupParts, numbers_below};
     ghost use Rattle.edge_matrix.specs.EdgeTables.{edges_of};
     ghost use Rattle.migration.specs.Looks.{aimed, asked, best_among, candidate_at, lacks_look, noted, targeted};
 
@@ -79,7 +79,7 @@ impl Looks {
     /// Notes that cluster `c` was seen off. The other looks stay.
     pub fn note_off(&mut self, c: u8)
         requires { c < 8 }
-        ensures { self.new ≡ slice_set self.old c (Some dark) }
+        ensures { self.new ≡ slice_set self.old c (Some off) }
     {
         self.notes[c as usize] = Some(Note::Off);
     }

@@ -9,8 +9,8 @@ use Rattle.std.proofs.lemmas.Option.{slice_get-get_or}
 use Rattle.std.proofs.Math.ListN.{get_or}
 use Rattle.sched_base.specs.declared.buckets.Bucket.TheVariants.{Fg}
 use Rattle.bucket_tables.specs.declared.Lane.{Lane}
-use Rattle.flat_policy.specs.Queue.{LaneWindow, lane, timeshare_lanes}
-use Rattle.flat_policy.specs.Windows.{due_before, earliest_of, stands_higher}
+use Rattle.flat_policy.specs.Policy.Queue.{LaneState, lane, timeshare_lanes}
+use Rattle.flat_policy.specs.Policy.Windows.{due_before, earliest_of, stands_higher}
 use Rattle.root_deadlines.specs.declared.lanes.Due.{Due}
 use Rattle.root_deadlines.specs.Lanes.{AreWindowsOf, LaneTable, behind_first, filled_among, first_of}
 use Rattle.root_deadlines.specs.Places.{place_of}
@@ -43,10 +43,10 @@ dues (l ∷ ls) (d ∷ ds) = record { place = place_of l; deadline = d } ∷ due
 dues_at : (ds : List ℕ) → length ds ≡ 10 → map (due_at ds) timeshare_lanes ≡ dues timeshare_lanes ds
 dues_at ds ten = by_ten (λ es. map (due_at es) timeshare_lanes ≡ dues timeshare_lanes es) (λ a b c d e f g h i j. refl) ds ten
 
-abbrev due_of : LaneWindow → Due
+abbrev due_of : LaneState → Due
 due_of w = record { place = place_of w.lane; deadline = w.deadline }
 
-dues_of : (ws : List LaneWindow) → dues (map (λ (w : LaneWindow). w.lane) ws) (map (λ (w : LaneWindow). w.deadline) ws) ≡ map due_of ws
+dues_of : (ws : List LaneState) → dues (map (λ (w : LaneState). w.lane) ws) (map (λ (w : LaneState). w.deadline) ws) ≡ map due_of ws
 dues_of [] = refl
 dues_of (w ∷ ws) = ap (λ ds. due_of w ∷ ds) (dues_of ws)
 
@@ -56,19 +56,19 @@ first_alone false true = refl
 first_alone false false = refl
 
 -- of two windows in their order, the later one is due before the earlier one by its deadline alone
-by_deadline : (x w : LaneWindow) → stands_higher x.lane w.lane ≡ true → due_before w x ≡ nat_lt w.deadline x.deadline
+by_deadline : (x w : LaneState) → stands_higher x.lane w.lane ≡ true → due_before w x ≡ nat_lt w.deadline x.deadline
 by_deadline x w higher =
     ap (λ b. nat_lt w.deadline x.deadline || ((w.deadline == x.deadline) && b)) (not_back x.lane w.lane higher)
     ∙ first_alone (nat_lt w.deadline x.deadline) (w.deadline == x.deadline)
 
 -- a pass over windows in their order, from one that stands higher than all of them
-over_windows : (fs : List Bool) (ws : List LaneWindow) (x : LaneWindow)
-    → list_all (stands_higher x.lane) (map (λ (w : LaneWindow). w.lane) ws) ≡ true → in_order (map (λ (w : LaneWindow). w.lane) ws) ≡ true
+over_windows : (fs : List Bool) (ws : List LaneState) (x : LaneState)
+    → list_all (stands_higher x.lane) (map (λ (w : LaneState). w.lane) ws) ≡ true → in_order (map (λ (w : LaneState). w.lane) ws) ≡ true
     → Some (over fs (map due_of ws) (due_of x)) ≡ option_map due_of (fold (better_of due_before) (Some x) (filled_among fs ws))
 over_windows [] ws x later order = refl
 over_windows (f ∷ fs) [] x later order = refl
 over_windows (true ∷ fs) (w ∷ ws) x later order =
-    let ls = map (λ (v : LaneWindow). v.lane) ws in
+    let ls = map (λ (v : LaneState). v.lane) ws in
     let parts = and_parts (list_all (stands_higher w.lane) ls) (in_order ls) order in
     let rest = and_parts (stands_higher x.lane w.lane) (list_all (stands_higher x.lane) ls) later in
     ap (λ b. Some (over fs (map due_of ws) (cond b (due_of w) (due_of x)))) (sym (by_deadline x w rest.0))
@@ -78,24 +78,24 @@ over_windows (true ∷ fs) (w ∷ ws) x later order =
       | false ↦ over_windows fs ws x rest.1 parts.1
     ]
 over_windows (false ∷ fs) (w ∷ ws) x later order =
-    let ls = map (λ (v : LaneWindow). v.lane) ws in
+    let ls = map (λ (v : LaneState). v.lane) ws in
     over_windows fs ws x (and_parts (stands_higher x.lane w.lane) (list_all (stands_higher x.lane) ls) later).1
     (and_parts (list_all (stands_higher w.lane) ls) (in_order ls) order).1
 
 -- the same from the first that is filled, over those behind it
-from_first : (fs : List Bool) (ws : List LaneWindow) (y : Due) → in_order (map (λ (w : LaneWindow). w.lane) ws) ≡ true
+from_first : (fs : List Bool) (ws : List LaneState) (y : Due) → in_order (map (λ (w : LaneState). w.lane) ws) ≡ true
     → first_of (filled_among fs (map due_of ws)) ≡ Some y
     → Some (over (behind_first fs) (map due_of ws) y) ≡ option_map due_of (fold (better_of due_before) None (filled_among fs ws))
 from_first [] ws y order first = absurd cc
 from_first (f ∷ fs) [] y order first = absurd cc
 from_first (true ∷ fs) (w ∷ ws) y order first =
-    let ls = map (λ (v : LaneWindow). v.lane) ws in
+    let ls = map (λ (v : LaneState). v.lane) ws in
     let parts = and_parts (list_all (stands_higher w.lane) ls) (in_order ls) order in
     let here : y ≡ due_of w = cc in
     ap (λ d. Some (over fs (map due_of ws) d)) here
     ∙ over_windows fs ws w parts.0 parts.1
 from_first (false ∷ fs) (w ∷ ws) y order first =
-    let ls = map (λ (v : LaneWindow). v.lane) ws in
+    let ls = map (λ (v : LaneState). v.lane) ws in
     from_first fs ws y (and_parts (list_all (stands_higher w.lane) ls) (in_order ls) order).1 first
 
 first_map : {X Y : Type 0} (f : X → Y) (fs : List Bool) (xs : List X) → first_of (filled_among fs (map f xs)) ≡ option_map f (first_of (filled_among fs xs))
@@ -112,7 +112,7 @@ Placed (l ∷ ls) = (slice_get timeshare_lanes (place_of l) ≡ Some l) × Place
 ten_placed : Placed timeshare_lanes
 ten_placed = (refl, (refl, (refl, (refl, (refl, (refl, (refl, (refl, (refl, (refl, tt))))))))))
 
-placed_among : (fs : List Bool) (ws : List LaneWindow) → Placed (map (λ (w : LaneWindow). w.lane) ws) → Placed (map (λ (w : LaneWindow). w.lane) (filled_among fs ws))
+placed_among : (fs : List Bool) (ws : List LaneState) → Placed (map (λ (w : LaneState). w.lane) ws) → Placed (map (λ (w : LaneState). w.lane) (filled_among fs ws))
 placed_among [] ws p = tt
 placed_among (f ∷ fs) [] p = tt
 placed_among (true ∷ fs) (w ∷ ws) p = (p.0, placed_among fs ws p.1)
@@ -122,18 +122,18 @@ abbrev lane_of_due : Option Due → Option Lane
 lane_of_due None = None
 lane_of_due (Some d) = slice_get timeshare_lanes d.place
 
-best_placed : (ws : List LaneWindow) (x : LaneWindow) → slice_get timeshare_lanes (place_of x.lane) ≡ Some x.lane → Placed (map (λ (w : LaneWindow). w.lane) ws)
-    → lane_of_due (option_map due_of (fold (better_of due_before) (Some x) ws)) ≡ option_map (λ (e : LaneWindow). e.lane) (fold (better_of due_before) (Some x) ws)
+best_placed : (ws : List LaneState) (x : LaneState) → slice_get timeshare_lanes (place_of x.lane) ≡ Some x.lane → Placed (map (λ (w : LaneState). w.lane) ws)
+    → lane_of_due (option_map due_of (fold (better_of due_before) (Some x) ws)) ≡ option_map (λ (e : LaneState). e.lane) (fold (better_of due_before) (Some x) ws)
 best_placed [] x at p = at
 best_placed (w ∷ ws) x at p =
     elim (due_before w x) as (λ b. lane_of_due (option_map due_of (fold (better_of due_before) (cond b (Some w) (Some x)) ws))
-    ≡ option_map (λ (e : LaneWindow). e.lane) (fold (better_of due_before) (cond b (Some w) (Some x)) ws)) [
+    ≡ option_map (λ (e : LaneState). e.lane) (fold (better_of due_before) (cond b (Some w) (Some x)) ws)) [
       | true ↦ best_placed ws w p.0 p.1
       | false ↦ best_placed ws x at p.1
     ]
 
-any_placed : (ws : List LaneWindow) → Placed (map (λ (w : LaneWindow). w.lane) ws)
-    → lane_of_due (option_map due_of (fold (better_of due_before) None ws)) ≡ option_map (λ (e : LaneWindow). e.lane) (fold (better_of due_before) None ws)
+any_placed : (ws : List LaneState) → Placed (map (λ (w : LaneState). w.lane) ws)
+    → lane_of_due (option_map due_of (fold (better_of due_before) None ws)) ≡ option_map (λ (e : LaneState). e.lane) (fold (better_of due_before) None ws)
 any_placed [] p = refl
 any_placed (w ∷ ws) p = best_placed ws w p.0 p.1
 
@@ -147,15 +147,15 @@ lane_there p small =
     )
 
 earliest_is : (fs : List Bool) (ds : List ℕ) → length fs ≡ 10 → length ds ≡ 10 → (p : ℕ) → p < 10 → slice_get timeshare_lanes p ≡ first_of (filled_among fs timeshare_lanes)
-    → (ws : List LaneWindow) → AreWindowsOf (record { filled = fs; deadlines = ds }) ws
-    → slice_get timeshare_lanes (passed (behind_first fs) ds (record { place = p; deadline = slice_index ds p })).place ≡ option_map (λ (e : LaneWindow). e.lane) (earliest_of (filled_among fs ws))
+    → (ws : List LaneState) → AreWindowsOf (record { filled = fs; deadlines = ds }) ws
+    → slice_get timeshare_lanes (passed (behind_first fs) ds (record { place = p; deadline = slice_index ds p })).place ≡ option_map (λ (e : LaneState). e.lane) (earliest_of (filled_among fs ws))
 earliest_is fs ds flags numbers p small first ws are =
     let there = lane_there p small in
     let x = there.0 in
     let same : map (due_at ds) timeshare_lanes ≡ map due_of ws =
     dues_at ds numbers
     ∙ ap (λ ls. dues ls ds) (sym are.lanes)
-    ∙ ap (λ es. dues (map (λ (w : LaneWindow). w.lane) ws) es) (sym are.deadlines)
+    ∙ ap (λ es. dues (map (λ (w : LaneState). w.lane) ws) es) (sym are.deadlines)
     ∙ dues_of ws in
     let begins : first_of (filled_among fs (map due_of ws)) ≡ Some (due_at ds x) =
     ap (λ es. first_of (filled_among fs es)) (sym same) ∙ first_map (due_at ds) fs timeshare_lanes ∙ ap (option_map (due_at ds)) (sym first ∙ there.1) in
@@ -164,7 +164,7 @@ earliest_is fs ds flags numbers p small first ws are =
     ∙ ap (λ (d : Due). slice_get timeshare_lanes d.place) (passed_over rest ds (due_at ds x) (behind_length fs ∙ flags) ∙ ap (λ es. over rest es (due_at ds x)) same)
     ∙ ap lane_of_due (from_first fs ws (due_at ds x) (ap in_order are.lanes) begins)
     ∙ any_placed (filled_among fs ws) (placed_among fs ws (subst Placed (sym are.lanes) ten_placed))
-    ∙ ap (λ o. option_map (λ (e : LaneWindow). e.lane) o) (sym (by_pass due_before key due_by_key (filled_among fs ws)))
+    ∙ ap (λ o. option_map (λ (e : LaneState). e.lane) o) (sym (by_pass due_before key due_by_key (filled_among fs ws)))
 
 among_map : {X Y : Type 0} (f : X → Y) (fs : List Bool) (xs : List X) → filled_among fs (map f xs) ≡ map f (filled_among fs xs)
 among_map f [] xs = refl
@@ -229,19 +229,19 @@ one_is gs ds t view fs a flags p small first s sooner others behind none =
 pub found_is : (fs : List Bool) (ds : List ℕ) → length fs ≡ 10 → length ds ≡ 10 → (t : LaneTable) → record { filled = fs; deadlines = ds } ≡ t
     → (p : ℕ) → p < 10 → slice_get timeshare_lanes p ≡ first_of (filled_among fs timeshare_lanes) → (rest : List Bool) → rest ≡ behind_first fs
     → (d : Due) → d ≡ passed rest t.deadlines (record { place = p; deadline = slice_index ds p }) → (l : Lane) → slice_get timeshare_lanes d.place ≡ Some l
-    → (ws : List LaneWindow) → AreWindowsOf t ws → Some l ≡ option_map (λ (e : LaneWindow). e.lane) (earliest_of (filled_among t.filled ws))
+    → (ws : List LaneState) → AreWindowsOf t ws → Some l ≡ option_map (λ (e : LaneState). e.lane) (earliest_of (filled_among t.filled ws))
 found_is fs ds flags numbers t view p small first rest behind d pass l at ws are =
     let here : Due = record { place = p; deadline = slice_index ds p } in
     sym at
     ∙ ap (λ (a : Due). slice_get timeshare_lanes a.place)
     (pass ∙ ap (λ (u : LaneTable). passed rest u.deadlines here) (sym view) ∙ ap (λ gs. passed gs ds here) behind)
     ∙ earliest_is fs ds flags numbers p small first ws (subst (λ (u : LaneTable). AreWindowsOf u ws) (sym view) are)
-    ∙ ap (λ (u : LaneTable). option_map (λ (e : LaneWindow). e.lane) (earliest_of (filled_among u.filled ws))) view
+    ∙ ap (λ (u : LaneTable). option_map (λ (e : LaneState). e.lane) (earliest_of (filled_among u.filled ws))) view
 
 pub alone_is : (fs : List Bool) (ds : List ℕ) → length fs ≡ 10 → length ds ≡ 10 → (t : LaneTable) → record { filled = fs; deadlines = ds } ≡ t
     → (p : ℕ) → p < 10 → slice_get timeshare_lanes p ≡ first_of (filled_among fs timeshare_lanes) → (rest : List Bool) → rest ≡ behind_first fs
     → filled_among rest timeshare_lanes ≡ [] → (l : Lane) → slice_get timeshare_lanes p ≡ Some l
-    → (ws : List LaneWindow) → AreWindowsOf t ws → Some l ≡ option_map (λ (e : LaneWindow). e.lane) (earliest_of (filled_among t.filled ws))
+    → (ws : List LaneState) → AreWindowsOf t ws → Some l ≡ option_map (λ (e : LaneState). e.lane) (earliest_of (filled_among t.filled ws))
 alone_is fs ds flags numbers t view p small first rest behind none l at ws are =
     let here : Due = record { place = p; deadline = slice_index ds p } in
     let stays = sym (pass_stays (behind_first fs) ds here (behind_length fs ∙ flags) (ap (λ gs. filled_among gs timeshare_lanes) (sym behind) ∙ none)) in
@@ -255,14 +255,14 @@ first_none [] h = refl
 first_none (x ∷ xs) h = absurd cc
 
 pub none_is : (fs : List Bool) (ds : List ℕ) (t : LaneTable) → record { filled = fs; deadlines = ds } ≡ t → None ≡ first_of (filled_among fs timeshare_lanes)
-    → (ws : List LaneWindow) → AreWindowsOf t ws
-    → None ≡ option_map (λ (e : LaneWindow). e.lane) (earliest_of (filled_among t.filled ws))
+    → (ws : List LaneState) → AreWindowsOf t ws
+    → None ≡ option_map (λ (e : LaneState). e.lane) (earliest_of (filled_among t.filled ws))
 none_is fs ds t view first ws are =
     let none = first ∙ ap (λ (u : LaneTable). first_of (filled_among u.filled timeshare_lanes)) view in
-    let lanes : None ≡ option_map (λ (w : LaneWindow). w.lane) (first_of (filled_among t.filled ws)) =
-    none ∙ ap (λ ls. first_of (filled_among t.filled ls)) (sym are.lanes) ∙ first_map (λ (w : LaneWindow). w.lane) t.filled ws in
-    ap (λ us. option_map (λ (e : LaneWindow). e.lane) (earliest_of us)) (sym (first_none (filled_among t.filled ws) (unmapped (first_of (filled_among t.filled ws)) lanes)))
+    let lanes : None ≡ option_map (λ (w : LaneState). w.lane) (first_of (filled_among t.filled ws)) =
+    none ∙ ap (λ ls. first_of (filled_among t.filled ls)) (sym are.lanes) ∙ first_map (λ (w : LaneState). w.lane) t.filled ws in
+    ap (λ us. option_map (λ (e : LaneState). e.lane) (earliest_of us)) (sym (first_none (filled_among t.filled ws) (unmapped (first_of (filled_among t.filled ws)) lanes)))
   where
-    unmapped : (o : Option LaneWindow) → None ≡ option_map (λ (w : LaneWindow). w.lane) o → None ≡ o
+    unmapped : (o : Option LaneState) → None ≡ option_map (λ (w : LaneState). w.lane) o → None ≡ o
     unmapped None h = refl
     unmapped (Some w) h = absurd cc

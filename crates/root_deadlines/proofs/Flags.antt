@@ -6,7 +6,7 @@ use Rattle.std.proofs.lemmas.Bool.{cases_eq, cases_lt}
 use Rattle.std.proofs.lemmas.Nat.Bits.{bit_at-lt, bit_at_and, bit_at_clear_other, bit_at_clear_same, bit_at_ones, bit_at_ones_above, bit_at_set_other, bit_at_set_same, shr_and_one}
 use Rattle.sched_base.specs.declared.buckets.Bucket.{Bucket}
 use Rattle.sched_base.specs.declared.buckets.Bucket.TheVariants.{Bg, Df, Fg, Ini, Ui, Ut}
-use Rattle.flat_policy.specs.Queue.{lane, timeshare_lanes}
+use Rattle.flat_policy.specs.Policy.Queue.{lane, timeshare_lanes}
 use Rattle.root_deadlines.specs.Bits.{flag_at, flags_of, places}
 use Rattle.root_deadlines.specs.Lanes.{higher_than}
 use Rattle.root_deadlines.specs.Places.{bound_place, place_of}

@@ -3,7 +3,7 @@
 use Rattle.std.proofs.Common.{◌≡◌, ℕ, ◌<◌, ◌≤◌, min, nat_lt, Bool, true, false, not, ◌||◌, cond, List, [], ◌∷◌, Option, None, Some, find, fold, refl, sym, ap, ◌∙◌, arith, inl, inr}
 use Rattle.std.specs.List.{list_any}
 use Rattle.std.proofs.lemmas.Bool.{cases_lt, lt-ltb, le-ltb}
-use Rattle.flat_policy.specs.Unpreceded.{is_preceded, unpreceded}
+use Rattle.flat_policy.specs.Policy.Unpreceded.{is_preceded, unpreceded}
 
 -- the better of the one found so far and one more; where neither precedes the other the first stays
 abbrev pub better_of : {X : Type 0} → (X → X → Bool) → Option X → X → Option X

@@ -5,7 +5,7 @@ use Rattle.std.specs.Int.{bit_at}
 use Rattle.std.proofs.lemmas.Nat.{shr-shr}
 use Rattle.std.proofs.lemmas.Nat.Bits.{bit_at-lt, bit_at_and}
 use lib.Count.{count_trailing_zeros, under}
-use Rattle.flat_policy.specs.Queue.{timeshare_lanes}
+use Rattle.flat_policy.specs.Policy.Queue.{timeshare_lanes}
 use Rattle.root_deadlines.specs.Bits.{flag_at, flags_of}
 use Rattle.root_deadlines.specs.Lanes.{behind_first, filled_among, first_of}
 

@@ -7,8 +7,8 @@ use Rattle.sched_base.specs.Bucket.{index}
 use Rattle.sched_base.specs.declared.buckets.Bucket.{Bucket}
 use Rattle.sched_base.specs.declared.buckets.Bucket.TheVariants.{Bg, Df, Fg, Ini, Ui, Ut}
 use Rattle.bucket_tables.specs.declared.Lane.{Lane}
-use Rattle.flat_policy.specs.Queue.{LaneWindow}
-use Rattle.flat_policy.specs.Windows.{due_before, stands_higher}
+use Rattle.flat_policy.specs.Policy.Queue.{LaneState}
+use Rattle.flat_policy.specs.Policy.Windows.{due_before, stands_higher}
 
 -- by one number first, and by another below m where the first are the same, is by one number
 by_two : (m a b p q : ℕ) (t : Bool) → p < m → q < m → t ≡ nat_lt p q
@@ -39,7 +39,7 @@ bound_rank false = 1
 abbrev pub rank : Lane → ℕ
 rank l = index l.bucket * 2 + bound_rank l.bound
 
-abbrev pub key : LaneWindow → ℕ
+abbrev pub key : LaneState → ℕ
 key l = l.deadline * 16 + rank l.lane
 
 bound_first : (x y : Bool) → (x && not y) ≡ nat_lt (bound_rank x) (bound_rank y)
@@ -76,7 +76,7 @@ not_back x y h = higher_by_rank y x ∙ le-ltb (rank y) (rank x) (omega (arith, 
 rank_small : (x : Lane) → rank x < 16
 rank_small x = omega (arith, index_small x.bucket, bound_small x.bound)
 
-pub due_by_key : (x y : LaneWindow) → due_before x y ≡ nat_lt (key x) (key y)
+pub due_by_key : (x y : LaneState) → due_before x y ≡ nat_lt (key x) (key y)
 due_by_key x y =
     by_two 16 x.deadline y.deadline (rank x.lane) (rank y.lane) (stands_higher x.lane y.lane)
     (rank_small x.lane) (rank_small y.lane) (higher_by_rank x.lane y.lane)

@@ -3,7 +3,7 @@ use Rattle.std.specs.Prelude.{Bool, List, None, Option, Some, [], length, map, n
 use Rattle.sched_base.specs.Bucket.{index}
 use Rattle.sched_base.specs.declared.buckets.Bucket.{Bucket}
 use Rattle.bucket_tables.specs.declared.Lane.{Lane}
-use Rattle.flat_policy.specs.Queue.{LaneWindow, timeshare_lanes}
+use Rattle.flat_policy.specs.Policy.Queue.{LaneState, timeshare_lanes}
 
 -- the ten lanes, each at its place: whether it is filled, and its deadline
 pub record LaneTable : Type 0 where
@@ -40,6 +40,6 @@ higher_than b (l ∷ ls) [] = []
 higher_than b (l ∷ ls) (f ∷ fs) = (f && nat_lt (index l.bucket) (index b)) ∷ higher_than b ls fs
 
 -- the windows of the ten lanes, with the deadlines of the table
-pub record AreWindowsOf (t : LaneTable) (windows : List LaneWindow) : Type 0 where
-  pub lanes : map (λ (l : LaneWindow). l.lane) windows ≡ timeshare_lanes
-  pub deadlines : map (λ (l : LaneWindow). l.deadline) windows ≡ t.deadlines
+pub record AreWindowsOf (t : LaneTable) (windows : List LaneState) : Type 0 where
+  pub lanes : map (λ (l : LaneState). l.lane) windows ≡ timeshare_lanes
+  pub deadlines : map (λ (l : LaneState). l.deadline) windows ≡ t.deadlines

@@ -1,7 +1,7 @@
 -- Which lane is due first, where the lanes come in their order. No public clause cites this module.
 use Rattle.std.specs.Prelude.{Bool, List, false, fold, if◌then◌else◌, nat_lt, slice_index, slice_index_or, true, ℕ}
 use Rattle.bucket_tables.specs.declared.Lane.{Lane}
-use Rattle.flat_policy.specs.Queue.{timeshare_lanes}
+use Rattle.flat_policy.specs.Policy.Queue.{timeshare_lanes}
 use Rattle.root_deadlines.specs.declared.lanes.Due.{Due}
 use Rattle.root_deadlines.specs.Places.{place_of}
 

@@ -2,7 +2,7 @@
 
 ghost use Rattle.std.specs.Option.{option_and_then};
 ghost use Rattle.std.specs.Prelude.{◌≡◌, ◌≢◌, ◌-◌, ◌<◌, ◌^◌, ◌↔◌, IfSome, IsTrue, [], false, replicate, slice_get, slice_index_or, slice_set};
-ghost use Rattle.flat_policy.specs.Queue.{timeshare_lanes};
+ghost use Rattle.flat_policy.specs.Policy.Queue.{timeshare_lanes};
 ghost use Rattle.root_deadlines.specs.Lanes.{behind_first, filled_among, first_of, higher_than};
 ghost use Rattle.root_deadlines.specs.Places.{bound_place, place_of};
 

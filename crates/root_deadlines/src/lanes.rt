@@ -1,8 +1,8 @@
 //! Which lanes are filled, and their deadlines.
 
 ghost use Rattle.std.specs.Prelude.{◌≡◌, ◌≢◌, ◌<◌, ◌↔◌, IfSome, IsNone, IsTrue, List, [], false, length, map, option_map, replicate, slice_index, slice_index_or, slice_set, true};
-ghost use Rattle.flat_policy.specs.Queue.{LaneWindow, timeshare_lanes};
-ghost use Rattle.flat_policy.specs.Windows.{earliest_of};
+ghost use Rattle.flat_policy.specs.Policy.Queue.{LaneState, timeshare_lanes};
+ghost use Rattle.flat_policy.specs.Policy.Windows.{earliest_of};
 ghost use Rattle.root_deadlines.specs.Lanes.{AreWindowsOf, filled_among, higher_than};
 ghost use Rattle.root_deadlines.specs.Places.{place_of};
 ghost use Rattle.root_deadlines.specs.Sooner.{due_at, passed, sooner_of, sooner_with};
@@ -185,8 +185,8 @@ impl Lanes {
         ensures timeshare { IfSome result (λ e. e.bucket ≢ Bucket.Ui) }
 
         // whatever the warps and starvation windows of the ten lanes are
-        ensures first { (windows : List LaneWindow) → AreWindowsOf self.now windows
-            → result ≡ option_map (λ (e : LaneWindow). e.lane) (earliest_of (filled_among self.now.filled windows)) }
+        ensures first { (windows : List LaneState) → AreWindowsOf self.now windows
+            → result ≡ option_map (λ (e : LaneState). e.lane) (earliest_of (filled_among self.now.filled windows)) }
     {
         let place = self.filled.highest_place()?;
         let rest = self.filled.behind_highest();

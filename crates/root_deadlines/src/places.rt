@@ -1,7 +1,7 @@
 //! Where a lane stands among the ten.
 
 ghost use Rattle.std.specs.Prelude.{◌≡◌, ◌≢◌, ◌<◌, Some, slice_get};
-ghost use Rattle.flat_policy.specs.Queue.{timeshare_lanes};
+ghost use Rattle.flat_policy.specs.Policy.Queue.{timeshare_lanes};
 ghost use Rattle.root_deadlines.specs.Places.{place_of};
 
 use crate::Lane;

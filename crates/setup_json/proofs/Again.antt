@@ -2,9 +2,9 @@
 use Rattle.std.proofs.Common.{◌≡◌, ◌⊎◌, ℕ, List, [], ◌∷◌, true, false, ◌==◌, Option, Some, None, Ok, map, refl, sym, ◌∙◌, ap, inl, inr}
 use Rattle.std.proofs.lemmas.Simd.{map-map}
 use Rattle.serde_json.specs.Data.{Data}
-use Rattle.flat_policy.specs.IsSetup.{IsCluster, IsClusterTimes, IsEdge, IsGroup, IsSetup}
-use Rattle.flat_policy.specs.Ranges.{first_out_of_range, first_out_of_range_timed, parts_of, parts_of_timed}
-use Rattle.flat_policy.specs.Setup.{ClusterParts, SetupParts, all_buckets, cluster_count, times_of_version_one}
+use Rattle.flat_policy.specs.Policy.BuiltSetups.{IsCluster, IsClusterTimes, IsEdge, IsGroup, IsSetup}
+use Rattle.flat_policy.specs.Policy.Ranges.{first_out_of_range, first_out_of_range_timed, parts_of, parts_of_timed}
+use Rattle.flat_policy.specs.Policy.Setup.{ClusterParts, SetupParts, all_buckets, cluster_count, times_of_version_one}
 use Rattle.flat_policy.specs.Texts.SetupLines.{array_of_length, cons_if, each_item, numbers_of, rows_of, setup_of_json, setup_of_object, times_rows, whole_number}
 use Rattle.flat_policy.specs.declared.setup.EdgeSpec.{EdgeSpec}
 use Rattle.flat_policy.specs.declared.setup.Times.{Times}

@@ -5,8 +5,8 @@ use Rattle.json.proofs.Printed.Utf8.{IsUtf8-are_ascii}
 use Rattle.json.specs.Print.{escape_byte}
 use Rattle.serde_json.specs.Data.{Data, Members, member, no_members, object}
 use Rattle.serde_json.specs.Written.{compact_text, members_text}
-use Rattle.flat_policy.specs.IsSetup.{IsCluster, IsClusterTimes, IsEdge, IsGroup, IsSetup}
-use Rattle.flat_policy.specs.Setup.{SetupParts, cluster_count}
+use Rattle.flat_policy.specs.Policy.BuiltSetups.{IsCluster, IsClusterTimes, IsEdge, IsGroup, IsSetup}
+use Rattle.flat_policy.specs.Policy.Setup.{SetupParts, cluster_count}
 use Rattle.flat_policy.specs.Texts.SetupLines.{bracketed, cluster_text, cluster_times_text, edge_text, json_of, numbers_text, setup_text, times_member}
 use Rattle.flat_policy.specs.declared.setup.Times.{Times}
 use Rattle.setup_json.proofs.Arrays.{IsAgain, SmallTable, number_again, number_data, rows_text, table_again, table_data, table_text, tables_again, tables_data, tables_text}

@@ -1,9 +1,9 @@
 -- What the readers' results say of the meaning.
 use Rattle.std.proofs.Common.{◌≡◌, ℕ, List, [], ◌∷◌, Option, Some, None, Result, Ok, Err, ◌&&◌, bytes_eq, string_bytes, eqb, map, refl, sym, ◌∙◌, ap, String, Global}
 use Rattle.std.specs.List.{list_all}
-use Rattle.flat_policy.specs.BuildFaults.{field_named}
-use Rattle.flat_policy.specs.Ranges.{first_out_of_range, first_out_of_range_timed, parts_of, parts_of_timed}
-use Rattle.flat_policy.specs.Setup.{SetupParts}
+use Rattle.flat_policy.specs.Policy.BuildFaults.{field_named}
+use Rattle.flat_policy.specs.Policy.Ranges.{first_out_of_range, first_out_of_range_timed, parts_of, parts_of_timed}
+use Rattle.flat_policy.specs.Policy.Setup.{SetupParts}
 use Rattle.flat_policy.specs.Texts.Pieces.{same_text}
 use Rattle.flat_policy.specs.Texts.SetupLines.{SetupNumbers, in_range, is_key, only_keys, setup_of, unless_fault}
 use Rattle.flat_policy.specs.declared.setup.BuildError.{BuildError}

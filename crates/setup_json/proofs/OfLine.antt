@@ -1,7 +1,7 @@
 -- No line has a fault of where it ends.
 use Rattle.std.proofs.Common.{List, ℕ, Option, Some, None, Result, Ok, Err, IfErr, Bool, true, false, codes, cond, option_and_then, subst}
-use Rattle.flat_policy.specs.Ranges.{first_out_of_range, first_out_of_range_timed, parts_of, parts_of_timed}
-use Rattle.flat_policy.specs.Setup.{SetupParts}
+use Rattle.flat_policy.specs.Policy.Ranges.{first_out_of_range, first_out_of_range_timed, parts_of, parts_of_timed}
+use Rattle.flat_policy.specs.Policy.Setup.{SetupParts}
 use Rattle.flat_policy.specs.Texts.SetupLines.{SetupNumbers, field_of, in_range, is_version_two, json_of, numbers_of, only_keys, read_setup_text, rows_of, setup_of, setup_of_json, setup_of_members, setup_of_object, shaped, times_field, times_of_other, times_rows, unless_fault, whole_number}
 use Rattle.flat_policy.specs.declared.setup.Field.{Field}
 use Rattle.flat_policy.specs.declared.texts.SetupFault.{SetupFault}

@@ -4,9 +4,9 @@ use Rattle.std.proofs.lemmas.Bool.{and_from}
 use Rattle.std.proofs.lemmas.List.{length-map}
 use Rattle.std.proofs.lemmas.List.Folds.{fold-map}
 use Rattle.std.specs.List.{list_all, list_any}
-use Rattle.flat_policy.specs.IsSetup.{IsCluster, IsClusterTimes, IsEdge, IsGroup, IsSetup, IsTimes, OtherEnds}
-use Rattle.flat_policy.specs.Ranges.{all_below, between, clusters_in_range, edges_in_range, ends_differ, groups_in_range, is_cluster_row, is_edge_row, is_times_row, nth, same_ends, threads_in_range, times_in_range}
-use Rattle.flat_policy.specs.Setup.{ClusterParts, SetupParts, cluster_count, times_for}
+use Rattle.flat_policy.specs.Policy.BuiltSetups.{IsCluster, IsClusterTimes, IsEdge, IsGroup, IsSetup, IsTimes, OtherEnds}
+use Rattle.flat_policy.specs.Policy.Ranges.{all_below, between, clusters_in_range, edges_in_range, ends_differ, groups_in_range, is_cluster_row, is_edge_row, is_times_row, nth, same_ends, threads_in_range, times_in_range}
+use Rattle.flat_policy.specs.Policy.Setup.{ClusterParts, SetupParts, cluster_count, times_for}
 use Rattle.flat_policy.specs.Texts.SetupLines.{flag_number}
 use Rattle.flat_policy.specs.declared.setup.EdgeSpec.{EdgeSpec}
 use Rattle.flat_policy.specs.declared.setup.Times.{Times}

@@ -1,9 +1,9 @@
 -- The rows of numbers that a setup is written as.
 use Rattle.std.proofs.Common.{◌≡◌, ℕ, ◌<◌, ◌≤◌, List, [], ◌∷◌, Bool, true, false, ◌==◌, length, map, refl, ◌∙◌, ap, arith}
 use Rattle.std.proofs.lemmas.List.{length-map}
-use Rattle.flat_policy.specs.IsSetup.{IsCluster, IsClusterTimes, IsEdge, IsGroup, IsTimes}
-use Rattle.flat_policy.specs.Ranges.{cluster_of_row, edge_of_row, times_of_rows}
-use Rattle.flat_policy.specs.Setup.{ClusterParts, numbers_below}
+use Rattle.flat_policy.specs.Policy.BuiltSetups.{IsCluster, IsClusterTimes, IsEdge, IsGroup, IsTimes}
+use Rattle.flat_policy.specs.Policy.Ranges.{cluster_of_row, edge_of_row, times_of_rows}
+use Rattle.flat_policy.specs.Policy.Setup.{ClusterParts, numbers_below}
 use Rattle.flat_policy.specs.Texts.SetupLines.{flag_number}
 use Rattle.flat_policy.specs.declared.setup.EdgeSpec.{EdgeSpec}
 use Rattle.flat_policy.specs.declared.setup.Times.{Times}

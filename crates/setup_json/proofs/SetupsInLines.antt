@@ -1,8 +1,8 @@
 -- The canonical text of a setup stands in a line.
 use Rattle.std.proofs.Common.{ℕ, suc, ◌+◌, ◌*◌, ◌≤◌, List, [], ◌++◌, Bool, true, false, cond, ◌==◌, codes, length, map, refl, ◌∙◌, ap, append_assoc, arith, le-ltb}
 use Rattle.std.proofs.lemmas.List.{length-map}
-use Rattle.flat_policy.specs.IsSetup.{IsCluster, IsClusterTimes, IsEdge, IsGroup, IsSetup}
-use Rattle.flat_policy.specs.Setup.{ClusterParts, SetupParts, cluster_count}
+use Rattle.flat_policy.specs.Policy.BuiltSetups.{IsCluster, IsClusterTimes, IsEdge, IsGroup, IsSetup}
+use Rattle.flat_policy.specs.Policy.Setup.{ClusterParts, SetupParts, cluster_count}
 use Rattle.flat_policy.specs.Texts.Lines.{newline}
 use Rattle.flat_policy.specs.Texts.SetupLines.{bracketed, cluster_text, cluster_times_text, edge_text, numbers_text, setup_text, times_member}
 use Rattle.flat_policy.specs.Texts.Streams.{setup_limit, text_lines}

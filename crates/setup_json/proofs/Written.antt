@@ -2,8 +2,8 @@
 use Rattle.std.proofs.Common.{◌≡◌, ℕ, zero, suc, ◌<◌, ◌≤◌, List, [], ◌∷◌, length, get_or, map, Some, slice_get, refl, sym, ◌∙◌, ap, arith}
 use Rattle.std.proofs.lemmas.List.{length-map}
 use Rattle.std.specs.Option.{option_map_or}
-use Rattle.flat_policy.specs.IsSetup.{IsClusterTimes, IsGroup, IsSetup}
-use Rattle.flat_policy.specs.Setup.{ClusterParts, SetupParts, cluster_count, cluster_times, cpus_of, group_count, rate_of}
+use Rattle.flat_policy.specs.Policy.BuiltSetups.{IsClusterTimes, IsGroup, IsSetup}
+use Rattle.flat_policy.specs.Policy.Setup.{ClusterParts, SetupParts, cluster_count, cluster_times, cpus_of, group_count, rate_of}
 use Rattle.flat_policy.specs.Texts.SetupLines.{cluster_text, edge_text, numbers_text}
 use Rattle.flat_policy.specs.declared.setup.EdgeSpec.{EdgeSpec}
 use Rattle.setup_json.proofs.Joins.{mapped_at, six_items}

@@ -1,7 +1,7 @@
 -- What is written is read again.
 use Rattle.std.specs.Prelude.{List, Ok, ℕ, ◌++◌, ◌∷◌, ◌≡◌}
-use Rattle.flat_policy.specs.IsSetup.{IsSetup}
-use Rattle.flat_policy.specs.Setup.{SetupParts}
+use Rattle.flat_policy.specs.Policy.BuiltSetups.{IsSetup}
+use Rattle.flat_policy.specs.Policy.Setup.{SetupParts}
 use Rattle.flat_policy.specs.Texts.Lines.{newline}
 use Rattle.flat_policy.specs.Texts.SetupLines.{read_setup_text, setup_text}
 use Rattle.flat_policy.specs.Texts.Streams.{TextLines, read_setup_line, text_lines}

@@ -1,7 +1,7 @@
 //! Writing a setup's canonical text.
 
 ghost use Rattle.std.specs.Prelude.{◌≡◌, ◌++◌, ◌<◌, decimal, IfOk, OnOk, map, slice_index_or, []};
-ghost use Rattle.flat_policy.specs.Setup.{cluster_count, cluster_times, group_count};
+ghost use Rattle.flat_policy.specs.Policy.Setup.{cluster_count, cluster_times, group_count};
 ghost use Rattle.flat_policy.specs.Texts.SetupLines.{bracketed, cluster_text, cluster_times_text, edge_text, numbers_text, setup_text, times_member};
 ghost use Rattle.flat_policy.specs.declared.setup.Times.{Times};
 ghost use Rattle.setup_json.specs.Writes.{comma_before};

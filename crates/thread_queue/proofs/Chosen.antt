@@ -1,8 +1,8 @@
 -- The first entry of a queue is the one that no other of its entries precedes.
 use Rattle.std.proofs.Common.{◌≡◌, ℕ, false, List, sym, ap, ◌∙◌}
-use Rattle.flat_policy.specs.Precedence.{precedes}
-use Rattle.flat_policy.specs.Queue.{Queued}
-use Rattle.flat_policy.specs.Unpreceded.{IsUnpreceded}
+use Rattle.flat_policy.specs.Policy.Precedence.{precedes}
+use Rattle.flat_policy.specs.Policy.Queue.{Queued}
+use Rattle.flat_policy.specs.Policy.Unpreceded.{IsUnpreceded}
 use Rattle.flat_policy.proofs.Choice.{chosen_is}
 use Rattle.flat_policy.proofs.Members.{all_from_members}
 use Rattle.link_arena.specs.Arena.{Arena}

@@ -1,6 +1,6 @@
 -- What an item stands for, and in which order items go.
 use Rattle.std.specs.Prelude.{Bool, ℕ, int_lt, nat_lt, ◌&&◌, ◌==◌, ◌||◌}
-use Rattle.flat_policy.specs.Queue.{Queued}
+use Rattle.flat_policy.specs.Policy.Queue.{Queued}
 use Rattle.sched_base.specs.Facts.{settled}
 use Rattle.thread_queue.specs.declared.item.Item.{Item}
 use Rattle.thread_queue.specs.declared.item.ItemKey.{ItemKey}

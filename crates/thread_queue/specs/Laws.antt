@@ -1,9 +1,9 @@
 -- What stays of a queue where the arena changes, and what its first entry is among all its entries.
 use Rattle.std.specs.Prelude.{Contains, List, Some, ℕ, ◌≡◌}
 use Rattle.flat_policy.specs.Laws.Choice.{OrdersMembers}
-use Rattle.flat_policy.specs.Precedence.{precedes}
-use Rattle.flat_policy.specs.Queue.{Queued}
-use Rattle.flat_policy.specs.Unpreceded.{IsUnpreceded, unpreceded}
+use Rattle.flat_policy.specs.Policy.Precedence.{precedes}
+use Rattle.flat_policy.specs.Policy.Queue.{Queued}
+use Rattle.flat_policy.specs.Policy.Unpreceded.{IsUnpreceded, unpreceded}
 use Rattle.link_arena.specs.Arena.{Arena, Inserts, IsLive, Removes, value_at}
 use Rattle.pairing_heap.specs.Heap.{SameSlots}
 use Rattle.thread_queue.specs.Item.{entry_of, key_of_item}

@@ -1,6 +1,6 @@
 -- What contracts say of a queue: with its arena, it is a heap of keys and slots, and how many they are.
 use Rattle.std.specs.Prelude.{List, Option, false, if◌then◌else◌, length, Some, ℕ, ◌+◌, ◌==◌, ◌≡◌}
-use Rattle.flat_policy.specs.Precedence.{precedes}
+use Rattle.flat_policy.specs.Policy.Precedence.{precedes}
 use Rattle.link_arena.specs.Arena.{Arena, value_at}
 use Rattle.pairing_heap.specs.Heap.{AddsPair, Holds, IsApart, Lacks, RekeysPair, Stands, TakesPair, pairs_at, times_of}
 use Rattle.thread_queue.specs.Item.{entry_of, key_of_item, key_precedes, settled_item}

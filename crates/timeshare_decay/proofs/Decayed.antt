@@ -1,6 +1,6 @@
 -- Usage that has decayed.
 use Rattle.std.proofs.Common.{◌≡◌, ◌<◌, ◌+◌, ◌-◌, ◌*◌, ◌/◌, ℕ, zero, suc, refl, ap, arith}
-use Rattle.flat_policy.specs.Usage.{decayed_by}
+use Rattle.flat_policy.specs.Policy.Usage.{decayed_by}
 
 -- what is used up stays so
 pub decayed_by-zero : (count : ℕ) → decayed_by count 0 ≡ 0

@@ -4,7 +4,7 @@
 #![tactic(auto)]
 
 ghost use Rattle.std.specs.Prelude.{◌≡◌, ◌≤◌, ◌<◌, ◌+◌, ◌-◌, ◌*◌, ◌/◌};
-ghost use Rattle.flat_policy.specs.Usage.{decay, priority, ticks, usage_step};
+ghost use Rattle.flat_policy.specs.Policy.Usage.{decay, priority, ticks, usage_step};
 
 use sched_base::Bucket;
 

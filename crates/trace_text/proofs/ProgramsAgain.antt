@@ -6,7 +6,7 @@ use Rattle.std.proofs.lemmas.List.{length-map}
 use Rattle.std.proofs.lemmas.List.Elements.{All-head, All-tail}
 use Rattle.flat_policy.specs.Texts.Lines.{power_at, power_word, program_at, span_pairs, span_within, spans_at}
 use Rattle.flat_policy.specs.Texts.Pieces.{bound_piece, bucket_piece, spaced}
-use Rattle.flat_policy.specs.Worker.{PowerAt, Program}
+use Rattle.flat_policy.specs.Runs.Worker.{PowerAt, Program}
 use Rattle.trace_text.proofs.PiecesAgain.{bound_again, bound_plain, bucket_again, bucket_plain, byte_again, decimal_plain, number_again, word_again}
 use Rattle.trace_text.proofs.ProgramsBack.{power_fields, program_fields}
 use Rattle.trace_text.proofs.Rejoined.{AllPlain}

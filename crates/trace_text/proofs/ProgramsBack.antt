@@ -7,7 +7,7 @@ use Rattle.std.proofs.lemmas.List.Elements.{All-cons, All-nil}
 use Rattle.flat_policy.specs.declared.texts.LineFault.{LineFault}
 use Rattle.flat_policy.specs.Texts.Lines.{power_at, power_word, program_at, span_pairs, span_within, spans_at}
 use Rattle.flat_policy.specs.Texts.Pieces.{base_at, bound_at, bound_piece, bucket_at, bucket_piece, cluster_at, group_at, most_of_32, name_at, next_piece, number_within}
-use Rattle.flat_policy.specs.Worker.{PowerAt, Program}
+use Rattle.flat_policy.specs.Runs.Worker.{PowerAt, Program}
 use Rattle.trace_text.proofs.LinesBack.{at_end_back}
 use Rattle.trace_text.proofs.ReadBack.{PieceBack, behind, number_back}
 use Rattle.trace_text.proofs.Readings.{and_then_ok, ok_is}

@@ -7,7 +7,7 @@ use Rattle.flat_policy.specs.declared.texts.ProgramLine.{ProgramLine}
 use Rattle.flat_policy.specs.declared.texts.RunLine.{RunLine}
 use Rattle.flat_policy.specs.Texts.Lines.{RunReading, RunSays, power_at, power_line, power_reading, power_text, power_word, program_at, program_line, program_text, read_run_line, read_run_pieces, run_words, thread_reading}
 use Rattle.flat_policy.specs.Texts.Pieces.{next_piece, pieces, spaced, word_among}
-use Rattle.flat_policy.specs.Worker.{Program}
+use Rattle.flat_policy.specs.Runs.Worker.{Program}
 use Rattle.trace_text.proofs.LinesBack.{limited, spaced_pieces}
 use Rattle.trace_text.proofs.PiecesAgain.{is_plain}
 use Rattle.trace_text.proofs.ProgramsAgain.{power_again, power_plain, power_short, program_again, program_plain, program_short}

@@ -6,7 +6,7 @@ use Rattle.flat_policy.specs.declared.texts.Given.{Given}
 use Rattle.flat_policy.specs.Texts.Answers.{answer_text}
 use Rattle.flat_policy.specs.Texts.Lines.{RunSays, answered_text, newline, program_text, read_run_line, read_step_line}
 use Rattle.flat_policy.specs.Texts.Steps.{step_text}
-use Rattle.flat_policy.specs.Worker.{Program}
+use Rattle.flat_policy.specs.Runs.Worker.{Program}
 use Rattle.trace_text.specs.Runs.{ProgramFits, SaysFits, read_program_line, says_text}
 use Rattle.trace_text.specs.Writing.{AnswerFits, GivenFits, StepFits}
 

@@ -6,7 +6,7 @@ use Rattle.flat_policy.specs.declared.texts.ProgramLine.{ProgramLine}
 use Rattle.flat_policy.specs.declared.texts.RunLine.{RunLine}
 use Rattle.flat_policy.specs.Texts.Lines.{RunSays, power_line, power_text, program_at, program_line, program_text, within_limit}
 use Rattle.flat_policy.specs.Texts.Pieces.{Worded, and_then, next_piece, pieces, word_among, worded}
-use Rattle.flat_policy.specs.Worker.{PowerAt, Program}
+use Rattle.flat_policy.specs.Runs.Worker.{PowerAt, Program}
 use Rattle.flat_policy.specs.declared.texts.RunLine.TheVariants as run_lines
 
 -- the program of a thread line: its first spans, as many as its count

@@ -2,10 +2,10 @@
 use Rattle.std.proofs.Common.{◌≡◌, Bool, true, false, Contains, Some, ◌∙◌, sym, inl, inr}
 use Rattle.std.proofs.lemmas.Bool.{cases_Bool}
 use Rattle.bucket_tables.specs.declared.Lane.{Lane}
-use Rattle.flat_policy.specs.Moves.{goes_before, pick_in}
-use Rattle.flat_policy.specs.Precedence.{precedes, precedes_in_lane}
-use Rattle.flat_policy.specs.Queue.{Flat, Queued, has_entries, in_lane, lane_entries}
-use Rattle.flat_policy.specs.Unpreceded.{unpreceded}
+use Rattle.flat_policy.specs.Policy.Moves.{goes_before, pick_in}
+use Rattle.flat_policy.specs.Policy.Precedence.{precedes, precedes_in_lane}
+use Rattle.flat_policy.specs.Policy.Queue.{Flat, Queued, has_entries, in_lane, lane_entries}
+use Rattle.flat_policy.specs.Policy.Unpreceded.{unpreceded}
 use Rattle.flat_policy.proofs.Choice.{StrictOn, chosen_from_unpreceded, is_unpreceded, there_under_strict}
 use Rattle.flat_policy.proofs.Chosen.{has_from_member}
 use Rattle.flat_policy.proofs.InLane.{UnboundOf, bound_alike, goes_alike, lane_member, unbound_strict}

@@ -4,8 +4,8 @@ use Rattle.sched_base.specs.Bucket.{index}
 use Rattle.bucket_tables.specs.declared.Lane.{Lane}
 use Rattle.flat_policy.specs.declared.lanes.Kind.TheVariants.{Natural, Pass, Starve}
 use Rattle.flat_policy.specs.declared.setup.Times.{Times}
-use Rattle.flat_policy.specs.Queue.{LaneWindow, timeshare_lanes}
-use Rattle.flat_policy.specs.Windows.{Choice, choice_against, chosen_behind, chosen_of, earliest_of, higher_of, may_pass, passing_of, some_higher}
+use Rattle.flat_policy.specs.Policy.Queue.{LaneState, timeshare_lanes}
+use Rattle.flat_policy.specs.Policy.Windows.{Choice, choice_against, chosen_behind, chosen_of, earliest_of, higher_of, may_pass, passing_of, some_higher}
 use Rattle.root_deadlines.specs.Lanes.{AreWindowsOf, LaneTable, filled_among, higher_than}
 use Rattle.root_deadlines.proofs.Ranks.{in_order}
 use Rattle.windows.specs.declared.choice.Marks.{Marks}
@@ -21,14 +21,14 @@ choice_by e (Some at) b = record { lane = at; kind = Some Pass }
 choice_by e None true = record { lane = e; kind = Some Starve }
 choice_by e None false = record { lane = e; kind = Some Natural }
 
-abbrev pub lane_at : Option LaneWindow → Option Lane
-lane_at o = option_map (λ (w : LaneWindow). w.lane) o
+abbrev pub lane_at : Option LaneState → Option Lane
+lane_at o = option_map (λ (w : LaneState). w.lane) o
 
 -- the choice by the higher lanes that are filled
-abbrev pub choice_over : List Times → Lane → List LaneWindow → Choice
+abbrev pub choice_over : List Times → Lane → List LaneState → Choice
 choice_over ts e higher = choice_by e (lane_at (find (may_pass ts) higher)) (some_higher higher)
 
-by_outcome : (filled : List LaneWindow) (w : LaneWindow) (p : Option LaneWindow)
+by_outcome : (filled : List LaneState) (w : LaneState) (p : Option LaneState)
     → choice_against p filled w ≡ choice_by w.lane (lane_at p) (some_higher (higher_of filled w))
 by_outcome filled w (Some l) = refl
 by_outcome filled w None = behind (some_higher (higher_of filled w))
@@ -37,14 +37,14 @@ by_outcome filled w None = behind (some_higher (higher_of filled w))
     behind true = refl
     behind false = refl
 
-against_is : (ts : List Times) (fs : List Bool) (ws : List LaneWindow) → in_order (lanes_of ws) ≡ true → (w : LaneWindow)
+against_is : (ts : List Times) (fs : List Bool) (ws : List LaneState) → in_order (lanes_of ws) ≡ true → (w : LaneState)
     → choice_against (passing_of ts (filled_among fs ws) w) (filled_among fs ws) w
     ≡ choice_over ts w.lane (filled_among (higher_than w.lane.bucket (lanes_of ws) fs) ws)
 against_is ts fs ws order w =
     let filled = filled_among fs ws in
     let first = highest_is_first (filter (may_pass ts) (higher_of filled w))
     (filtered_in_order (may_pass ts) (higher_of filled w)
-    (filtered_in_order (λ (l : LaneWindow). nat_lt (index l.lane.bucket) (index w.lane.bucket)) filled (filled_in_order fs ws order))) in
+    (filtered_in_order (λ (l : LaneState). nat_lt (index l.lane.bucket) (index w.lane.bucket)) filled (filled_in_order fs ws order))) in
     ap (λ p. choice_against p filled w) (first ∙ first_is_found (may_pass ts) (higher_of filled w))
     ∙ by_outcome filled w (find (may_pass ts) (higher_of filled w))
     ∙ ap (choice_over ts w.lane) (higher_among w.lane.bucket fs ws)
@@ -52,13 +52,13 @@ against_is ts fs ws order w =
 some_lane : (x y : Lane) → Some x ≡ Some y → x ≡ y
 some_lane x y h = cc
 
-chosen_is : (ts : List Times) (fs : List Bool) (ws : List LaneWindow) → in_order (lanes_of ws) ≡ true → (e : Lane)
+chosen_is : (ts : List Times) (fs : List Bool) (ws : List LaneState) → in_order (lanes_of ws) ≡ true → (e : Lane)
     → Some e ≡ lane_at (earliest_of (filled_among fs ws))
     → chosen_of ts (filled_among fs ws) ≡ Some (choice_over ts e (filled_among (higher_than e.bucket (lanes_of ws) fs) ws))
 chosen_is ts fs ws order e h = from (earliest_of (filled_among fs ws)) h
   where
-    from : (o : Option LaneWindow) → Some e ≡ lane_at o
-        → option_map (λ (w : LaneWindow). choice_against (passing_of ts (filled_among fs ws) w) (filled_among fs ws) w) o
+    from : (o : Option LaneState) → Some e ≡ lane_at o
+        → option_map (λ (w : LaneState). choice_against (passing_of ts (filled_among fs ws) w) (filled_among fs ws) w) o
         ≡ Some (choice_over ts e (filled_among (higher_than e.bucket (lanes_of ws) fs) ws))
     from None k = absurd cc
     from (Some w) k =
@@ -69,7 +69,7 @@ chosen_is ts fs ws order e h = from (earliest_of (filled_among fs ws)) h
 pub chosen_from : (ts : List Times) (t : LaneTable) (ms : List Marks) (rs : List Bool) → TenMarked t ms rs → (w : WindowState)
     → record { times = ts; lanes = windows_over t.deadlines ms; filled = t.filled } ≡ w
     → (o : Option Lane) (e : Lane) → o ≡ Some e
-    → ((windows : List LaneWindow) → AreWindowsOf t windows → o ≡ option_map (λ (l : LaneWindow). l.lane) (earliest_of (filled_among t.filled windows)))
+    → ((windows : List LaneState) → AreWindowsOf t windows → o ≡ option_map (λ (l : LaneState). l.lane) (earliest_of (filled_among t.filled windows)))
     → (higher : List Bool) → higher ≡ higher_than e.bucket timeshare_lanes t.filled
     → chosen_of w.times (filled_of w) ≡ Some (choice_over w.times e (filled_among higher w.lanes))
 chosen_from ts t ms rs ten w view o e some first higher is =
@@ -90,12 +90,12 @@ pub lanes_are : (ts : List Times) (t : LaneTable) (ms : List Marks) (rs : List B
 lanes_are ts t ms rs ten w view = ap (λ (v : WindowState). lanes_of v.lanes) (sym view) ∙ lanes_over t.deadlines ms ten.deadlines ten.marks
 
 -- where no lane is in a set, none of it waits, and else one does
-pub none_waits : (fs : List Bool) (ws : List LaneWindow) → lanes_of ws ≡ timeshare_lanes → filled_among fs timeshare_lanes ≡ [] → filled_among fs ws ≡ []
+pub none_waits : (fs : List Bool) (ws : List LaneState) → lanes_of ws ≡ timeshare_lanes → filled_among fs timeshare_lanes ≡ [] → filled_among fs ws ≡ []
 none_waits fs ws lanes none = none_filled fs ws (ap (filled_among fs) lanes ∙ none)
 
-pub one_waits : (fs : List Bool) (ws : List LaneWindow) → lanes_of ws ≡ timeshare_lanes → (filled_among fs timeshare_lanes ≡ [] → ⊥) → some_higher (filled_among fs ws) ≡ true
+pub one_waits : (fs : List Bool) (ws : List LaneState) → lanes_of ws ≡ timeshare_lanes → (filled_among fs timeshare_lanes ≡ [] → ⊥) → some_higher (filled_among fs ws) ≡ true
 one_waits fs ws lanes some = is_some_of (filled_among fs ws) (λ none. some (ap (filled_among fs) (sym lanes) ∙ none_of_lanes fs ws none))
   where
-    is_some_of : (xs : List LaneWindow) → (xs ≡ [] → ⊥) → some_higher xs ≡ true
+    is_some_of : (xs : List LaneState) → (xs ≡ [] → ⊥) → some_higher xs ≡ true
     is_some_of [] h = absurd (h refl)
     is_some_of (x ∷ xs) h = refl

@@ -9,16 +9,16 @@ use Rattle.bucket_tables.specs.declared.Lane.{Lane}
 use Rattle.flat_policy.specs.declared.journal.Line.{Line}
 use Rattle.flat_policy.specs.declared.lanes.Kind.{Kind}
 use Rattle.flat_policy.specs.declared.setup.Times.{Times}
-use Rattle.flat_policy.specs.ClusterSteps.{Event, facts_of, flat_after_offer, got, named_entry, touched}
-use Rattle.flat_policy.specs.Moves.{clutch_has_entries, entered, lanes_filled, pick, pick_in, removed, removed_by_selection, selected, selected_by, turn_on_entering, turn_on_leaving, turn_on_selection, with_entry, with_next_turn, without_entry, without_turn}
-use Rattle.flat_policy.specs.Offer.{offered_between}
-use Rattle.flat_policy.specs.Places.{actor_of, flat_after, flat_after_entering, flat_after_pulling, moment_of}
-use Rattle.flat_policy.specs.Precedence.{clutch_priority}
-use Rattle.flat_policy.specs.Queue.{Clutch, Flat, LaneWindow, Queued, clutch_of, has_entries, lane_of, timeshare_lanes}
-use Rattle.flat_policy.specs.Refresh.{all_clutches, refreshed, turn_on_refresh, with_new_prices}
-use Rattle.flat_policy.specs.Setup.{SetupParts, cluster_times, group_count, home_of}
-use Rattle.flat_policy.specs.WindowLaws.{WindowEvent, event_if_empty, event_if_on, event_of_entering, lane_fills, no_event, select_at, window_event}
-use Rattle.flat_policy.specs.Windows.{Choice, at_lane, chosen, expired, expired_window, renewed_deadline, window_after, windows_after}
+use Rattle.flat_policy.specs.Policy.ClusterSteps.{Event, facts_of, flat_after_offer, got, named_entry, touched}
+use Rattle.flat_policy.specs.Policy.Moves.{clutch_has_entries, entered, lanes_filled, pick, pick_in, removed, removed_by_selection, selected, selected_by, turn_on_entering, turn_on_leaving, turn_on_selection, with_entry, with_next_turn, without_entry, without_turn}
+use Rattle.flat_policy.specs.Policy.Offer.{offered_between}
+use Rattle.flat_policy.specs.Runs.Histories.{actor_of, flat_after, flat_after_entering, flat_after_pulling, moment_of}
+use Rattle.flat_policy.specs.Policy.Precedence.{clutch_priority}
+use Rattle.flat_policy.specs.Policy.Queue.{Clutch, Flat, LaneState, Queued, clutch_of, has_entries, lane_of, timeshare_lanes}
+use Rattle.flat_policy.specs.Policy.Refresh.{all_clutches, refreshed, turn_on_refresh, with_new_prices}
+use Rattle.flat_policy.specs.Policy.Setup.{SetupParts, cluster_times, group_count, home_of}
+use Rattle.flat_policy.specs.Laws.Windows.{WindowEvent, event_if_empty, event_if_on, event_of_entering, lane_fills, no_event, select_at, window_event}
+use Rattle.flat_policy.specs.Policy.Windows.{Choice, at_lane, chosen, expired, expired_window, renewed_deadline, window_after, windows_after}
 use Rattle.flat_policy.proofs.ChosenLane.{chooses_filled}
 use Rattle.flat_policy.proofs.KeptLanes.{at_lane_keeps, expired_keeps, lane_names, map_keeps_lanes, window_keeps}
 use Rattle.flat_policy.proofs.Refreshes.{fold_keeps}
@@ -114,16 +114,16 @@ lanes_by setup c s l (acts.Off at) = refl
 lanes_by setup c s l (acts.On at) = refl
 
 -- a window after a choice of its lane by deadlines, or of another
-abbrev pub after_kind : List Times → ℕ → Option Kind → LaneWindow → LaneWindow
+abbrev pub after_kind : List Times → ℕ → Option Kind → LaneState → LaneState
 after_kind ts now None l = l
 after_kind ts now (Some kind) l = window_after ts now kind l
 
 -- the lanes after a choice
-abbrev lanes_after : List Times → ℕ → Option Kind → Lane → List LaneWindow → List LaneWindow
+abbrev lanes_after : List Times → ℕ → Option Kind → Lane → List LaneState → List LaneState
 lanes_after ts now None at ls = ls
 lanes_after ts now (Some kind) at ls = at_lane at (window_after ts now kind) ls
 
-abbrev pub lanes_chosen : List Times → ℕ → Option Choice → List LaneWindow → List LaneWindow
+abbrev pub lanes_chosen : List Times → ℕ → Option Choice → List LaneState → List LaneState
 lanes_chosen ts now None ls = ls
 lanes_chosen ts now (Some c) ls = lanes_after ts now c.kind c.lane ls
 
@@ -145,11 +145,11 @@ selected_lanes_by ts now x ten (Some c) is =
 pub selected_lanes : (ts : List Times) (now : ℕ) (s : Flat) → HasTenLanes s → (selected ts now s).lanes ≡ lanes_chosen ts now (chosen ts (expired ts s now)) (expired ts s now).lanes
 selected_lanes ts now s ten = selected_lanes_by ts now (expired ts s now) (expired_ten ts s now ten) (chosen ts (expired ts s now)) refl
 
-names_after : (ts : List Times) (now : ℕ) (k : Option Kind) (at : Lane) (ls : List LaneWindow) → lane_names (lanes_after ts now k at ls) ≡ lane_names ls
+names_after : (ts : List Times) (now : ℕ) (k : Option Kind) (at : Lane) (ls : List LaneState) → lane_names (lanes_after ts now k at ls) ≡ lane_names ls
 names_after ts now None at ls = refl
 names_after ts now (Some kind) at ls = at_lane_keeps at (window_after ts now kind) (window_keeps ts now kind) ls
 
-names_chosen : (ts : List Times) (now : ℕ) (o : Option Choice) (ls : List LaneWindow) → lane_names (lanes_chosen ts now o ls) ≡ lane_names ls
+names_chosen : (ts : List Times) (now : ℕ) (o : Option Choice) (ls : List LaneState) → lane_names (lanes_chosen ts now o ls) ≡ lane_names ls
 names_chosen ts now None ls = refl
 names_chosen ts now (Some c) ls = names_after ts now c.kind c.lane ls
 

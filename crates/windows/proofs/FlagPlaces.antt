@@ -5,7 +5,7 @@ use Rattle.sched_base.specs.declared.buckets.Bucket.{Bucket}
 use Rattle.sched_base.specs.declared.buckets.Bucket.TheVariants.{Bg, Df, Fg, Ini, Ui, Ut}
 use Rattle.bucket_tables.specs.declared.Lane.{Lane}
 use Rattle.flat_policy.specs.declared.setup.Times.{Times}
-use Rattle.flat_policy.specs.Queue.{LaneWindow, lane, new_window, timeshare_lanes}
+use Rattle.flat_policy.specs.Policy.Queue.{LaneState, lane, new_lane, timeshare_lanes}
 use Rattle.root_deadlines.specs.Places.{place_of}
 use Rattle.root_deadlines.proofs.Tens.{by_ten}
 use Rattle.windows.specs.declared.choice.Marks.{Marks}
@@ -68,9 +68,9 @@ put_back Bg true ds other x = by_ten (λ es. slice_set es (place_of (lane Bg tru
 put_back Bg false ds other x = by_ten (λ es. slice_set es (place_of (lane Bg false)) (slice_index es (place_of (lane Bg false))) ≡ es) (λ a b c d e f g h i j. refl) ds x
 
 -- the pass that the code makes
-abbrev pub passing_by_place : List Times → List Bool → List LaneWindow → Option Lane
+abbrev pub passing_by_place : List Times → List Bool → List LaneState → Option Lane
 passing_by_place ts fs ws =
-    fold (λ (a : Option Lane) (l : Lane). passing_with (slice_index_or fs (place_of l) false) ts a (slice_index_or ws (place_of l) (new_window l))) None timeshare_lanes
+    fold (λ (a : Option Lane) (l : Lane). passing_with (slice_index_or fs (place_of l) false) ts a (slice_index_or ws (place_of l) (new_lane l))) None timeshare_lanes
 
 pub by_place : (ts : List Times) (fs : List Bool) (ds : List ℕ) (ms : List Marks) → length fs ≡ 10 → length ds ≡ 10 → length ms ≡ 10
     → passing_by_place ts fs (windows_over ds ms) ≡ passing_over ts fs (windows_over ds ms) None

@@ -4,8 +4,8 @@ use Rattle.std.specs.Prelude.{slice_index, slice_index_or, slice_set}
 use Rattle.sched_base.specs.declared.buckets.Bucket.{Bucket}
 use Rattle.sched_base.specs.declared.buckets.Bucket.TheVariants.{Bg, Df, Fg, Ini, Ui, Ut}
 use Rattle.bucket_tables.specs.declared.Lane.{Lane}
-use Rattle.flat_policy.specs.Queue.{LaneWindow, lane, new_window, timeshare_lanes}
-use Rattle.flat_policy.specs.Windows.{at_lane}
+use Rattle.flat_policy.specs.Policy.Queue.{LaneState, lane, new_lane, timeshare_lanes}
+use Rattle.flat_policy.specs.Policy.Windows.{at_lane}
 use Rattle.root_deadlines.specs.Places.{place_of}
 use Rattle.root_deadlines.proofs.Tens.{by_ten}
 use Rattle.windows.specs.declared.choice.Marks.{Marks}
@@ -22,15 +22,15 @@ by_tens P all xs ys x y =
 pub lanes_over : (ds : List ℕ) (ms : List Marks) → length ds ≡ 10 → length ms ≡ 10 → lanes_of (windows_over ds ms) ≡ timeshare_lanes
 lanes_over ds ms d m = by_tens (λ es ns. lanes_of (windows_over es ns) ≡ timeshare_lanes) (λ a b c d e f g h i j k l m n o p q r s t. refl) ds ms d m
 
-pub deadlines_over : (ds : List ℕ) (ms : List Marks) → length ds ≡ 10 → length ms ≡ 10 → map (λ (w : LaneWindow). w.deadline) (windows_over ds ms) ≡ ds
+pub deadlines_over : (ds : List ℕ) (ms : List Marks) → length ds ≡ 10 → length ms ≡ 10 → map (λ (w : LaneState). w.deadline) (windows_over ds ms) ≡ ds
 deadlines_over ds ms d m =
-    by_tens (λ es ns. map (λ (w : LaneWindow). w.deadline) (windows_over es ns) ≡ es) (λ a b c d e f g h i j k l m n o p q r s t. refl) ds ms d m
+    by_tens (λ es ns. map (λ (w : LaneState). w.deadline) (windows_over es ns) ≡ es) (λ a b c d e f g h i j k l m n o p q r s t. refl) ds ms d m
 
 -- the windows read at a lane's place
 abbrev ReadsAt : Lane → Marks → Marks → List ℕ → List Marks → Type 0
 ReadsAt at mark default ds ms =
     mark ≡ slice_index_or ms (place_of at) default
-    → slice_index_or (windows_over ds ms) (place_of at) (new_window at) ≡ record { lane = at; deadline = slice_index ds (place_of at); warp = mark.warp; starved = mark.starved }
+    → slice_index_or (windows_over ds ms) (place_of at) (new_lane at) ≡ record { lane = at; deadline = slice_index ds (place_of at); warp = mark.warp; starved = mark.starved }
 
 pub read_at : (b : Bucket) (bound : Bool) (mark default : Marks) (ds : List ℕ) (ms : List Marks) → (b ≡ Ui → ⊥) → length ds ≡ 10 → length ms ≡ 10
     → ReadsAt (lane b bound) mark default ds ms
@@ -47,12 +47,12 @@ read_at Bg true mark default ds ms other x y = by_tens (ReadsAt (lane Bg true) m
 read_at Bg false mark default ds ms other x y = by_tens (ReadsAt (lane Bg false) mark default) (λ a b c d e f g h i j k l m n o p q r s t is. rw is refl) ds ms x y
 
 -- the windows written at a lane's place
-abbrev WritesAt : Lane → (LaneWindow → LaneWindow) → ℕ → Marks → List ℕ → List Marks → Type 0
+abbrev WritesAt : Lane → (LaneState → LaneState) → ℕ → Marks → List ℕ → List Marks → Type 0
 WritesAt at change deadline mark ds ms =
-    change (slice_index_or (windows_over ds ms) (place_of at) (new_window at)) ≡ record { lane = at; deadline = deadline; warp = mark.warp; starved = mark.starved }
+    change (slice_index_or (windows_over ds ms) (place_of at) (new_lane at)) ≡ record { lane = at; deadline = deadline; warp = mark.warp; starved = mark.starved }
     → windows_over (slice_set ds (place_of at) deadline) (slice_set ms (place_of at) mark) ≡ at_lane at change (windows_over ds ms)
 
-pub write_at : (b : Bucket) (bound : Bool) (change : LaneWindow → LaneWindow) (deadline : ℕ) (mark : Marks) (ds : List ℕ) (ms : List Marks)
+pub write_at : (b : Bucket) (bound : Bool) (change : LaneState → LaneState) (deadline : ℕ) (mark : Marks) (ds : List ℕ) (ms : List Marks)
     → (b ≡ Ui → ⊥) → length ds ≡ 10 → length ms ≡ 10 → WritesAt (lane b bound) change deadline mark ds ms
 write_at Ui bound change deadline mark ds ms other x y = absurd (other refl)
 write_at Fg true change deadline mark ds ms other x y = by_tens (WritesAt (lane Fg true) change deadline mark) (λ a b c d e f g h i j k l m n o p q r s t is. rw is refl) ds ms x y
@@ -67,12 +67,12 @@ write_at Bg true change deadline mark ds ms other x y = by_tens (WritesAt (lane 
 write_at Bg false change deadline mark ds ms other x y = by_tens (WritesAt (lane Bg false) change deadline mark) (λ a b c d e f g h i j k l m n o p q r s t is. rw is refl) ds ms x y
 
 -- a change that leaves the windows at a lane's place leaves all
-abbrev StaysAt : Lane → (LaneWindow → LaneWindow) → List ℕ → List Marks → Type 0
+abbrev StaysAt : Lane → (LaneState → LaneState) → List ℕ → List Marks → Type 0
 StaysAt at change ds ms =
-    change (slice_index_or (windows_over ds ms) (place_of at) (new_window at)) ≡ slice_index_or (windows_over ds ms) (place_of at) (new_window at)
+    change (slice_index_or (windows_over ds ms) (place_of at) (new_lane at)) ≡ slice_index_or (windows_over ds ms) (place_of at) (new_lane at)
     → windows_over ds ms ≡ at_lane at change (windows_over ds ms)
 
-pub stays_at : (b : Bucket) (bound : Bool) (change : LaneWindow → LaneWindow) (ds : List ℕ) (ms : List Marks) → (b ≡ Ui → ⊥) → length ds ≡ 10 → length ms ≡ 10
+pub stays_at : (b : Bucket) (bound : Bool) (change : LaneState → LaneState) (ds : List ℕ) (ms : List Marks) → (b ≡ Ui → ⊥) → length ds ≡ 10 → length ms ≡ 10
     → StaysAt (lane b bound) change ds ms
 stays_at Ui bound change ds ms other x y = absurd (other refl)
 stays_at Fg true change ds ms other x y = by_tens (StaysAt (lane Fg true) change) (λ a b c d e f g h i j k l m n o p q r s t is. rw is refl) ds ms x y

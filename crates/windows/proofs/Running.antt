@@ -7,8 +7,8 @@ use Rattle.sched_base.specs.declared.buckets.Bucket.TheVariants.{Bg, Df, Fg, Ini
 use Rattle.flat_policy.specs.declared.lanes.Starved.TheVariants.{No}
 use Rattle.flat_policy.specs.declared.lanes.Warp.TheVariants.{Unused}
 use Rattle.flat_policy.specs.declared.setup.Times.{Times}
-use Rattle.flat_policy.specs.Queue.{LaneWindow, lane}
-use Rattle.flat_policy.specs.Windows.{at_lane, expired_window}
+use Rattle.flat_policy.specs.Policy.Queue.{LaneState, lane}
+use Rattle.flat_policy.specs.Policy.Windows.{at_lane, expired_window}
 use Rattle.root_deadlines.specs.Lanes.{LaneTable}
 use Rattle.root_deadlines.specs.Places.{place_of}
 use Rattle.windows.specs.declared.choice.Marks.{Marks}
@@ -22,12 +22,12 @@ means ts t ms = record { times = ts; lanes = windows_over t.deadlines ms; filled
 
 -- a change that leaves the windows of its lane leaves all
 pub stays_of : (ts : List Times) (t : LaneTable) (ms : List Marks) (rs : List Bool) → TenMarked t ms rs → (w : WindowState) → means ts t ms ≡ w
-    → (b : Bucket) (bound : Bool) → (b ≡ Ui → ⊥) → (change : List Times → LaneWindow → LaneWindow) → change w.times (window_of w (lane b bound)) ≡ window_of w (lane b bound)
+    → (b : Bucket) (bound : Bool) → (b ≡ Ui → ⊥) → (change : List Times → LaneState → LaneState) → change w.times (window_of w (lane b bound)) ≡ window_of w (lane b bound)
     → w ≡ record w { lanes = at_lane (lane b bound) (change w.times) w.lanes }
 stays_of ts t ms rs ten w view b bound other change same =
     let f = change ts in
     let here = (rw (← view) at same) in
-    rw (← view) (ap (λ (ls : List LaneWindow). record { times = ts; lanes = ls; filled = t.filled }) (stays_at b bound f t.deadlines ms other ten.deadlines ten.marks here))
+    rw (← view) (ap (λ (ls : List LaneState). record { times = ts; lanes = ls; filled = t.filled }) (stays_at b bound f t.deadlines ms other ten.deadlines ten.marks here))
 
 place_small : (b : Bucket) (bound : Bool) → place_of (lane b bound) < 10
 place_small Ui true = omega arith
@@ -55,5 +55,5 @@ rests_at ts t ms rs ten w view b bound other now out =
     let quiet : runs mark ≡ false =
     sym (get_or-map runs ms at none false (omega (arith, place_small b bound, ten.marks)))
     ∙ ap (λ (fs : List Bool). slice_index_or fs at false) (sym ten.running) ∙ out in
-    let here : LaneWindow = record { lane = lane b bound; deadline = slice_index t.deadlines at; warp = mark.warp; starved = mark.starved } in
+    let here : LaneState = record { lane = lane b bound; deadline = slice_index t.deadlines at; warp = mark.warp; starved = mark.starved } in
     rw (← view) (ap (expired_window ts now) read ∙ not_running ts now here quiet ∙ sym read)

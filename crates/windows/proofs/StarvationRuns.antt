@@ -9,11 +9,11 @@ use Rattle.flat_policy.specs.declared.lanes.Kind.TheVariants.{Natural, Pass, Sta
 use Rattle.flat_policy.specs.declared.lanes.Starved.{Starved}
 use Rattle.flat_policy.specs.declared.lanes.Starved.TheVariants.{No, Since}
 use Rattle.flat_policy.specs.declared.setup.Times.{Times}
-use Rattle.flat_policy.specs.Places.{act_of, flat_after}
-use Rattle.flat_policy.specs.Queue.{Flat, LaneWindow, empty_flat, same_lane, timeshare_lanes}
-use Rattle.flat_policy.specs.Setup.{SetupParts, cluster_times, group_count, times_for}
-use Rattle.flat_policy.specs.WindowLaws.{EventKeepsWindow, IsTimeshare, RenewsInTime, StarvationLaw, StarveIsWithin, WindowEvent, WindowKept, first_starve_after, first_starve_by, kind_at, lane_fills, no_event, select_at, unless_renewed, window_ends, window_event, window_of}
-use Rattle.flat_policy.specs.Windows.{at_lane, chosen, expired, expired_warp, expired_window, opened_window, renewed_deadline, window_over}
+use Rattle.flat_policy.specs.Runs.Histories.{act_of, flat_after}
+use Rattle.flat_policy.specs.Policy.Queue.{Flat, LaneState, empty_flat, same_lane, timeshare_lanes}
+use Rattle.flat_policy.specs.Policy.Setup.{SetupParts, cluster_times, group_count, times_for}
+use Rattle.flat_policy.specs.Laws.Windows.{EventKeepsWindow, IsTimeshare, RenewsInTime, StarvationLaw, StarveIsWithin, WindowEvent, WindowKept, first_starve_after, first_starve_by, kind_at, lane_fills, no_event, select_at, unless_renewed, window_ends, window_event, window_of}
+use Rattle.flat_policy.specs.Policy.Windows.{at_lane, chosen, expired, expired_warp, expired_window, opened_window, renewed_deadline, window_over}
 use Rattle.flat_policy.proofs.Buckets.{same_lane_is, same_lane_itself}
 use Rattle.flat_policy.proofs.Chosen.{member_of_map}
 use Rattle.flat_policy.proofs.KeptLanes.{expired_keeps}
@@ -59,7 +59,7 @@ opened_fits : (now : ℕ) (first : Option ℕ) (w : Starved) → StarveFits firs
 opened_fits now None w h = ap (opened_window now) h
 opened_fits now (Some m) w h = ap (opened_window now) h
 
-chosen_fits : (ts : List Times) (now : ℕ) (first : Option ℕ) (k : Option Kind) (l : LaneWindow) → StarveFits first l.starved → StarveFits (first_starve_after first now k) (after_kind ts now k l).starved
+chosen_fits : (ts : List Times) (now : ℕ) (first : Option ℕ) (k : Option Kind) (l : LaneState) → StarveFits first l.starved → StarveFits (first_starve_after first now k) (after_kind ts now k l).starved
 chosen_fits ts now first None l h = h
 chosen_fits ts now first (Some Natural) l h = refl
 chosen_fits ts now first (Some Pass) l h = h
@@ -80,30 +80,30 @@ abbrev quantum_at : List Times → Lane → ℕ
 quantum_at ts at = (times_for ts at.bucket).quantum
 
 -- the windows of a lane fit its first Starve choice
-abbrev FitsAt : Lane → Option ℕ → List LaneWindow → Type 0
-FitsAt at first ls = AtLane at (λ (l : LaneWindow). StarveFits first l.starved) ls
+abbrev FitsAt : Lane → Option ℕ → List LaneState → Type 0
+FitsAt at first ls = AtLane at (λ (l : LaneState). StarveFits first l.starved) ls
 
 -- one of the ten lanes has a window
-finds_window : (s : Flat) (at : Lane) → HasTenLanes s → IsTimeshare at → (l : LaneWindow) × (window_of s at ≡ Some l)
+finds_window : (s : Flat) (at : Lane) → HasTenLanes s → IsTimeshare at → (l : LaneState) × (window_of s at ≡ Some l)
 finds_window s at ten among =
     let named = member_from_any (same_lane at) timeshare_lanes among in
-    let stands = member_of_map (λ (l : LaneWindow). l.lane) s.lanes named.0 (subst (λ ls. Contains ls named.0) (sym ten) named.1) in
+    let stands = member_of_map (λ (l : LaneState). l.lane) s.lanes named.0 (subst (λ ls. Contains ls named.0) (sym ten) named.1) in
     let is : stands.0.lane ≡ at = stands.2 ∙ sym (same_lane_is at named.0 named.2) in
-    finds_from_member (λ (l : LaneWindow). same_lane l.lane at) s.lanes stands.0 stands.1
+    finds_from_member (λ (l : LaneState). same_lane l.lane at) s.lanes stands.0 stands.1
     (subst (λ x. same_lane x at ≡ true) (sym is) (same_lane_itself at))
 
 -- whether the window ends by a moment
 ends_is : (ts : List Times) (s : Flat) (now : ℕ) (at : Lane) (first : Option ℕ) → HasTenLanes s → IsTimeshare at → FitsAt at first s.lanes → window_ends ts s now at ≡ is_over (quantum_at ts at) now first
 ends_is ts s now at first ten among a =
     let found = finds_window s at ten among in
-    let stands = find_finds (λ (l : LaneWindow). same_lane l.lane at) s.lanes found.0 found.1 in
-    ap (λ (o : Option LaneWindow). option_map_or (λ (l : LaneWindow). window_over (quantum_at ts at) now l.starved) o false) found.1
+    let stands = find_finds (λ (l : LaneState). same_lane l.lane at) s.lanes found.0 found.1 in
+    ap (λ (o : Option LaneState). option_map_or (λ (l : LaneState). window_over (quantum_at ts at) now l.starved) o false) found.1
     ∙ over_is (quantum_at ts at) now first found.0.starved
-    (at_member at (λ (l : LaneWindow). StarveFits first l.starved) s.lanes found.0 a stands.0 stands.1)
+    (at_member at (λ (l : LaneState). StarveFits first l.starved) s.lanes found.0 a stands.0 stands.1)
 
-expired_starved_is : (ts : List Times) (now : ℕ) (l : LaneWindow) → (expired_window ts now l).starved ≡ cond (window_over (quantum_at ts l.lane) now l.starved) No l.starved
+expired_starved_is : (ts : List Times) (now : ℕ) (l : LaneState) → (expired_window ts now l).starved ≡ cond (window_over (quantum_at ts l.lane) now l.starved) No l.starved
 expired_starved_is ts now l =
-    let warped : LaneWindow = record l { warp = expired_warp now l.warp } in
+    let warped : LaneState = record l { warp = expired_warp now l.warp } in
     elim (cases_Bool (window_over (quantum_at ts l.lane) now l.starved)) [
       | inl e ↦ rw e refl
       | inr e ↦ rw e refl
@@ -112,7 +112,7 @@ expired_starved_is ts now l =
 expired_fits : (ts : List Times) (at : Lane) (now : ℕ) (first : Option ℕ) (s : Flat) → FitsAt at first s.lanes → FitsAt at (unless_renewed (is_over (quantum_at ts at) now first) first) (expired ts s now).lanes
 expired_fits ts at now first s a =
     let over : Bool = is_over (quantum_at ts at) now first in
-    at_map at (λ (l : LaneWindow). StarveFits first l.starved) (λ (l : LaneWindow). StarveFits (unless_renewed over first) l.starved)
+    at_map at (λ (l : LaneState). StarveFits first l.starved) (λ (l : LaneState). StarveFits (unless_renewed over first) l.starved)
     (expired_window ts now) (expired_keeps ts now)
     (λ l h p. (let is : window_over (quantum_at ts l.lane) now l.starved ≡ over =
     ap (λ (x : Lane). window_over (quantum_at ts x) now l.starved) (same_lane_is l.lane at h) ∙ over_is (quantum_at ts at) now first l.starved p in
@@ -120,14 +120,14 @@ expired_fits ts at now first s a =
     (still_fits first over l.starved p)))
     s.lanes a
 
-filled_fits : (ts : List Times) (at filled : Lane) (now : ℕ) (first : Option ℕ) (ls : List LaneWindow) → FitsAt at first ls → FitsAt at (unless_renewed (same_lane filled at) first) (at_lane filled (renewed_deadline ts now) ls)
+filled_fits : (ts : List Times) (at filled : Lane) (now : ℕ) (first : Option ℕ) (ls : List LaneState) → FitsAt at first ls → FitsAt at (unless_renewed (same_lane filled at) first) (at_lane filled (renewed_deadline ts now) ls)
 filled_fits ts at filled now first ls a =
-    at_changed at filled (λ (l : LaneWindow). StarveFits first l.starved) (λ (l : LaneWindow). StarveFits (unless_renewed (same_lane filled at) first) l.starved)
+    at_changed at filled (λ (l : LaneState). StarveFits first l.starved) (λ (l : LaneState). StarveFits (unless_renewed (same_lane filled at) first) l.starved)
     (renewed_deadline ts now) (λ l. refl)
     (λ l is p. renewed_fits (same_lane filled at) l p)
     ls a
   where
-    renewed_fits : (here : Bool) (l : LaneWindow) → StarveFits first l.starved → StarveFits (unless_renewed here first) (cond here (renewed_deadline ts now l) l).starved
+    renewed_fits : (here : Bool) (l : LaneState) → StarveFits first l.starved → StarveFits (unless_renewed here first) (cond here (renewed_deadline ts now l) l).starved
     renewed_fits true l p = refl
     renewed_fits false l p = p
 
@@ -141,8 +141,8 @@ keeps_window ts at first s next (select_at now) among some ten h a =
     let k : Option Kind = kind_at at (chosen ts x) in
     let fits : FitsAt at (first_starve_after left now k) next.lanes =
     subst (FitsAt at (first_starve_after left now k)) (sym (ap (λ (u : Flat). u.lanes) h ∙ selected_lanes ts now s ten))
-    (at_choice at ts now (λ (l : LaneWindow). StarveFits left l.starved)
-    (λ (l : LaneWindow). StarveFits (first_starve_after left now k) l.starved) (chosen ts x)
+    (at_choice at ts now (λ (l : LaneState). StarveFits left l.starved)
+    (λ (l : LaneState). StarveFits (first_starve_after left now k) l.starved) (chosen ts x)
     (λ l is p. chosen_fits ts now left k l p) x.lanes (expired_fits ts at now first s a)) in (
       (
         renews_in_time (quantum_at ts at) now first (window_ends ts s now at) ends,

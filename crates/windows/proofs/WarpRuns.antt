@@ -8,11 +8,11 @@ use Rattle.flat_policy.specs.declared.lanes.Kind.TheVariants.{Natural, Pass, Sta
 use Rattle.flat_policy.specs.declared.lanes.Warp.{Warp}
 use Rattle.flat_policy.specs.declared.lanes.Warp.TheVariants.{Spent, Until, Unused}
 use Rattle.flat_policy.specs.declared.setup.Times.{Times}
-use Rattle.flat_policy.specs.Places.{act_of, flat_after}
-use Rattle.flat_policy.specs.Queue.{Flat, LaneWindow, empty_flat, same_lane}
-use Rattle.flat_policy.specs.Setup.{SetupParts, cluster_times, group_count, times_for}
-use Rattle.flat_policy.specs.WindowLaws.{EventKeepsWarp, PassIsWithin, WarpKept, WarpLaw, WindowEvent, first_pass_after, first_pass_by, kind_at, lane_fills, no_event, select_at, window_event}
-use Rattle.flat_policy.specs.Windows.{at_lane, begun_warp, chosen, expired, expired_warp, expired_window, may_pass, renewed_deadline, unspent, window_over}
+use Rattle.flat_policy.specs.Runs.Histories.{act_of, flat_after}
+use Rattle.flat_policy.specs.Policy.Queue.{Flat, LaneState, empty_flat, same_lane}
+use Rattle.flat_policy.specs.Policy.Setup.{SetupParts, cluster_times, group_count, times_for}
+use Rattle.flat_policy.specs.Laws.Windows.{EventKeepsWarp, PassIsWithin, WarpKept, WarpLaw, WindowEvent, first_pass_after, first_pass_by, kind_at, lane_fills, no_event, select_at, window_event}
+use Rattle.flat_policy.specs.Policy.Windows.{at_lane, begun_warp, chosen, expired, expired_warp, expired_window, may_pass, renewed_deadline, unspent, window_over}
 use Rattle.flat_policy.proofs.Buckets.{same_lane_is}
 use Rattle.flat_policy.proofs.KeptLanes.{expired_keeps}
 use Rattle.windows.proofs.AtLane.{AtLane, at_changed, at_map, at_member}
@@ -57,7 +57,7 @@ begun_fits span now (Some m) w h = elim h [ inl e ↦ inl (ap (begun_warp span n
 abbrev span_at : List Times → Lane → ℕ
 span_at ts at = (times_for ts at.bucket).warp
 
-chosen_fits : (ts : List Times) (at : Lane) (now : ℕ) (first : Option ℕ) (k : Option Kind) (l : LaneWindow) → l.lane ≡ at → WarpStands (span_at ts at) now first l.warp → WarpFits (span_at ts at) (first_pass_after first now k) (after_kind ts now k l).warp
+chosen_fits : (ts : List Times) (at : Lane) (now : ℕ) (first : Option ℕ) (k : Option Kind) (l : LaneState) → l.lane ≡ at → WarpStands (span_at ts at) now first l.warp → WarpFits (span_at ts at) (first_pass_after first now k) (after_kind ts now k l).warp
 chosen_fits ts at now first None l is h = warp_fits (span_at ts at) now first l.warp h
 chosen_fits ts at now first (Some Natural) l is h = refl
 chosen_fits ts at now first (Some Starve) l is h = warp_fits (span_at ts at) now first l.warp h
@@ -72,7 +72,7 @@ spent_never w e h = false≢true (sym (ap unspent e) ∙ h)
 has_span : (n : ℕ) → not (n == 0) ≡ true → 0 < n
 has_span n h = grind arith
 
-pass_within : (ts : List Times) (at : Lane) (now : ℕ) (first : Option ℕ) (l : LaneWindow) → l.lane ≡ at → may_pass ts l ≡ true → WarpStands (span_at ts at) now first l.warp → PassIsWithin (span_at ts at) first now (Some Pass)
+pass_within : (ts : List Times) (at : Lane) (now : ℕ) (first : Option ℕ) (l : LaneState) → l.lane ≡ at → may_pass ts l ≡ true → WarpStands (span_at ts at) now first l.warp → PassIsWithin (span_at ts at) first now (Some Pass)
 pass_within ts at now None l is may h =
     let span : 0 < span_at ts at = subst (λ x. 0 < span_at ts x) is (has_span (span_at ts l.lane) (and_parts (not (span_at ts l.lane == 0)) (unspent l.warp) may).0) in
     omega (arith, span)
@@ -83,21 +83,21 @@ pass_within ts at now (Some m) l is may h =
     ]
 
 -- the windows of a lane fit its first Pass, and so after they expired
-abbrev FitsAt : List Times → Lane → Option ℕ → List LaneWindow → Type 0
-FitsAt ts at first ls = AtLane at (λ (l : LaneWindow). WarpFits (span_at ts at) first l.warp) ls
+abbrev FitsAt : List Times → Lane → Option ℕ → List LaneState → Type 0
+FitsAt ts at first ls = AtLane at (λ (l : LaneState). WarpFits (span_at ts at) first l.warp) ls
 
-abbrev StandsAt : List Times → Lane → ℕ → Option ℕ → List LaneWindow → Type 0
-StandsAt ts at now first ls = AtLane at (λ (l : LaneWindow). WarpStands (span_at ts at) now first l.warp) ls
+abbrev StandsAt : List Times → Lane → ℕ → Option ℕ → List LaneState → Type 0
+StandsAt ts at now first ls = AtLane at (λ (l : LaneState). WarpStands (span_at ts at) now first l.warp) ls
 
-expired_warp_is : (ts : List Times) (now : ℕ) (l : LaneWindow) → (expired_window ts now l).warp ≡ expired_warp now l.warp
+expired_warp_is : (ts : List Times) (now : ℕ) (l : LaneState) → (expired_window ts now l).warp ≡ expired_warp now l.warp
 expired_warp_is ts now l =
-    let warped : LaneWindow = record l { warp = expired_warp now l.warp } in
+    let warped : LaneState = record l { warp = expired_warp now l.warp } in
     cond_both (window_over (times_for ts l.lane.bucket).quantum now l.starved) (renewed_deadline ts now warped) warped
-    (λ (m : LaneWindow). m.warp ≡ expired_warp now l.warp) (λ e. refl) (λ e. refl)
+    (λ (m : LaneState). m.warp ≡ expired_warp now l.warp) (λ e. refl) (λ e. refl)
 
 expired_stands : (ts : List Times) (at : Lane) (now : ℕ) (first : Option ℕ) (s : Flat) → FitsAt ts at first s.lanes → StandsAt ts at now first (expired ts s now).lanes
 expired_stands ts at now first s a =
-    at_map at (λ (l : LaneWindow). WarpFits (span_at ts at) first l.warp) (λ (l : LaneWindow). WarpStands (span_at ts at) now first l.warp)
+    at_map at (λ (l : LaneState). WarpFits (span_at ts at) first l.warp) (λ (l : LaneState). WarpStands (span_at ts at) now first l.warp)
     (expired_window ts now) (expired_keeps ts now)
     (λ l h p. subst (WarpStands (span_at ts at) now first) (sym (expired_warp_is ts now l)) (warp_stands (span_at ts at) now first l.warp p))
     s.lanes a
@@ -109,13 +109,13 @@ kind_within ts at now first x a (Some Starve) is = tt
 kind_within ts at now first x a (Some Pass) is =
     let p = passes ts x at is in
     pass_within ts at now first p.window (same_lane_is p.window.lane at p.there) p.may
-    (at_member at (λ (l : LaneWindow). WarpStands (span_at ts at) now first l.warp) x.lanes p.window a p.stood p.there)
+    (at_member at (λ (l : LaneState). WarpStands (span_at ts at) now first l.warp) x.lanes p.window a p.stood p.there)
 
-filled_fits : (ts : List Times) (at filled : Lane) (now : ℕ) (first : Option ℕ) (ls : List LaneWindow) → FitsAt ts at first ls → FitsAt ts at first (at_lane filled (renewed_deadline ts now) ls)
+filled_fits : (ts : List Times) (at filled : Lane) (now : ℕ) (first : Option ℕ) (ls : List LaneState) → FitsAt ts at first ls → FitsAt ts at first (at_lane filled (renewed_deadline ts now) ls)
 filled_fits ts at filled now first ls a =
-    at_changed at filled (λ (l : LaneWindow). WarpFits (span_at ts at) first l.warp) (λ (l : LaneWindow). WarpFits (span_at ts at) first l.warp)
+    at_changed at filled (λ (l : LaneState). WarpFits (span_at ts at) first l.warp) (λ (l : LaneState). WarpFits (span_at ts at) first l.warp)
     (renewed_deadline ts now) (λ l. refl)
-    (λ l is p. cond_both (same_lane filled at) (renewed_deadline ts now l) l (λ (m : LaneWindow). WarpFits (span_at ts at) first m.warp) (λ e. p) (λ e. p))
+    (λ l is p. cond_both (same_lane filled at) (renewed_deadline ts now l) l (λ (m : LaneState). WarpFits (span_at ts at) first m.warp) (λ e. p) (λ e. p))
     ls a
 
 -- each event keeps the warp, and what it leaves fits
@@ -126,8 +126,8 @@ keeps_warp ts at first s next (select_at now) ten h a =
     let k : Option Kind = kind_at at (chosen ts x) in (
       kind_within ts at now first x stands k refl,
       subst (FitsAt ts at (first_pass_after first now k)) (sym (ap (λ (u : Flat). u.lanes) h ∙ selected_lanes ts now s ten))
-          (at_choice at ts now (λ (l : LaneWindow). WarpStands (span_at ts at) now first l.warp)
-          (λ (l : LaneWindow). WarpFits (span_at ts at) (first_pass_after first now k) l.warp) (chosen ts x)
+          (at_choice at ts now (λ (l : LaneState). WarpStands (span_at ts at) now first l.warp)
+          (λ (l : LaneState). WarpFits (span_at ts at) (first_pass_after first now k) l.warp) (chosen ts x)
           (λ l is p. chosen_fits ts at now first k l is p) x.lanes stands),
     )
 keeps_warp ts at first s next (lane_fills filled) ten h a =

@@ -6,13 +6,13 @@ use Rattle.flat_policy.specs.declared.lanes.Starved.TheVariants.{No, Since}
 use Rattle.flat_policy.specs.declared.lanes.Warp.{Warp}
 use Rattle.flat_policy.specs.declared.lanes.Warp.TheVariants.{Spent, Until, Unused}
 use Rattle.flat_policy.specs.declared.setup.Times.{Times}
-use Rattle.flat_policy.specs.Queue.{LaneWindow}
-use Rattle.flat_policy.specs.Setup.{times_for}
-use Rattle.flat_policy.specs.Windows.{window_over}
+use Rattle.flat_policy.specs.Policy.Queue.{LaneState}
+use Rattle.flat_policy.specs.Policy.Setup.{times_for}
+use Rattle.flat_policy.specs.Policy.Windows.{window_over}
 use Rattle.windows.specs.declared.window.Window.{Window}
 
 -- the windows with the lane
-abbrev pub lane_window : Lane → Window → LaneWindow
+abbrev pub lane_window : Lane → Window → LaneState
 lane_window at w = record { lane = at; deadline = w.deadline; warp = w.warp; starved = w.starved }
 
 -- a warp runs from its beginning until it is spent
@@ -43,5 +43,5 @@ warp_ends now (Until end) = nat_le end now
 warp_ends now Spent = false
 
 -- a lane's windows change when they expire
-abbrev pub is_ending : List Times → ℕ → LaneWindow → Bool
+abbrev pub is_ending : List Times → ℕ → LaneState → Bool
 is_ending ts now l = warp_ends now l.warp || window_over (times_for ts l.lane.bucket).quantum now l.starved

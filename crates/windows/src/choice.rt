@@ -2,9 +2,9 @@
 
 ghost use Rattle.std.specs.Prelude.{◌≡◌, ◌≢◌, ◌<◌, ◌^◌, ◌↔◌, IfSome, IsTrue, [], Some, false, find, length, map, option_map, replicate, slice_index_or, true};
 ghost use Rattle.std.specs.Option.{ForSome};
-ghost use Rattle.flat_policy.specs.Queue.{LaneWindow, new_window, timeshare_lanes};
-ghost use Rattle.flat_policy.specs.Setup.{times_for};
-ghost use Rattle.flat_policy.specs.Windows.{at_lane, chosen_of, expired_window, may_pass, renewed_deadline, window_after};
+ghost use Rattle.flat_policy.specs.Policy.Queue.{LaneState, new_lane, timeshare_lanes};
+ghost use Rattle.flat_policy.specs.Policy.Setup.{times_for};
+ghost use Rattle.flat_policy.specs.Policy.Windows.{at_lane, chosen_of, expired_window, may_pass, renewed_deadline, window_after};
 ghost use Rattle.root_deadlines.specs.Lanes.{filled_among};
 ghost use Rattle.root_deadlines.specs.Places.{place_of};
 ghost use Rattle.windows.specs.OneLane.{lane_window};
@@ -60,7 +60,7 @@ impl Windows {
     pub fn new(times: [Times; 6]) -> Windows
         ensures { result ≡ record {
           times = times;
-          lanes = map new_window timeshare_lanes;
+          lanes = map new_lane timeshare_lanes;
           filled = replicate 10 false;
         } }
     {
@@ -98,7 +98,7 @@ impl Windows {
     /// Puts the changed windows of a lane in their place.
     fn put(&mut self, lane: Lane, window: Window)
         requires { lane.bucket ≢ Bucket.Ui }
-        ensures { (change : LaneWindow → LaneWindow)
+        ensures { (change : LaneState → LaneState)
             → change (window_of self.old lane) ≡ lane_window lane window
             → self.new ≡ record self.old { lanes = at_lane lane change self.old.lanes } }
     {
@@ -272,7 +272,7 @@ impl Windows {
     fn passing(&self, set: &LaneSet) -> Option<Lane>
         requires { length set.now ≡ 10 }
         ensures lane { IfSome result (λ l. l.bucket ≢ Bucket.Ui) }
-        ensures passing { result ≡ option_map (λ (l : LaneWindow). l.lane)
+        ensures passing { result ≡ option_map (λ (l : LaneState). l.lane)
             (find (may_pass self.now.times) (filled_among set.now self.now.lanes)) }
     {
         let _ = &self.times;

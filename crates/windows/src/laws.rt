@@ -1,6 +1,6 @@
 //! Laws of the flags. Each is the contract of a function that does nothing.
 
-ghost use Rattle.flat_policy.specs.WindowLaws.{StarvationLaw, WarpLaw};
+ghost use Rattle.flat_policy.specs.Laws.Windows.{StarvationLaw, WarpLaw};
 ghost use Rattle.windows.specs.Flags.{ChoicesAgree, FillingFollows};
 
 /// Where the flags say which lanes of a queue have entries, the choice among the filled lanes is

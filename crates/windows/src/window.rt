@@ -3,8 +3,8 @@
 ghost use Rattle.std.specs.Prelude.{◌≡◌, ◌<◌, ◌^◌, List};
 ghost use Rattle.bucket_tables.specs.declared.Lane.{Lane};
 ghost use Rattle.flat_policy.specs.declared.setup.Times.{Times};
-ghost use Rattle.flat_policy.specs.Setup.{times_for};
-ghost use Rattle.flat_policy.specs.Windows.{begun_warp, expired_warp, expired_window, may_pass, opened_window, renewed_deadline, window_after, window_over};
+ghost use Rattle.flat_policy.specs.Policy.Setup.{times_for};
+ghost use Rattle.flat_policy.specs.Policy.Windows.{begun_warp, expired_warp, expired_window, may_pass, opened_window, renewed_deadline, window_after, window_over};
 ghost use Rattle.windows.specs.OneLane.{is_ending, is_running, is_unused, lane_window, starves};
 
 use flat_policy::lanes::{Kind, Starved, Warp};

@@ -1,7 +1,7 @@
 -- Whole inputs, and what they come to.
 use Rattle.std.specs.Prelude.{List, None, [], codes, false, ℕ, ◌++◌, ◌∷◌, ◌≡◌}
 use Rattle.sched_base.specs.declared.buckets.Bucket.TheVariants.{Fg}
-use Rattle.flat_policy.specs.Load.{Load}
+use Rattle.flat_policy.specs.Runs.LoadTrace.{Load}
 use Rattle.flat_policy.specs.Texts.Lines.{power_text, program_text}
 use Rattle.flat_policy.specs.Texts.Streams.{Judged, Out, Replay, RunStatus, Status, StatusOf, bad_line, bad_setup, differs, done, end_met, fault_met, over_met, read_fault, too_long}
 use Rattle.flat_policy.specs.declared.texts.LineFault.TheVariants as line_faults

@@ -4,13 +4,13 @@ use Rattle.flat_policy.specs.declared.journal.Line.{Line}
 use Rattle.flat_policy.specs.declared.setup.Times.{Times}
 use Rattle.worked_examples.specs.Examples.Merging.{crossed_journals, offer_to_0, offer_to_1, select_of_0, select_of_1}
 use Rattle.worked_examples.specs.Examples.OneThread.{one_history, one_log}
-use Rattle.flat_policy.specs.Interleaving.{entries_of, lines_at_cluster}
-use Rattle.flat_policy.specs.Machine.{empty_hand}
-use Rattle.flat_policy.specs.Own.{hand_after_all}
-use Rattle.flat_policy.specs.Queue.{Flat, LaneWindow}
+use Rattle.flat_policy.specs.Runs.Interleaving.{entries_of, lines_at_cluster}
+use Rattle.flat_policy.specs.Policy.Machine.{empty_hand}
+use Rattle.flat_policy.specs.Runs.Hands.{hand_after_all}
+use Rattle.flat_policy.specs.Policy.Queue.{Flat, LaneState}
 use Rattle.worked_examples.specs.Rows.Run.{one_cluster}
-use Rattle.flat_policy.specs.Windows.{choice_against, chosen_against, filled_lanes, higher_lanes, higher_of, passing, passing_of}
-use Rattle.flat_policy.specs.Worker.{is_idle_by}
+use Rattle.flat_policy.specs.Policy.Windows.{choice_against, chosen_against, filled_lanes, higher_lanes, higher_of, passing, passing_of}
+use Rattle.flat_policy.specs.Runs.Worker.{is_idle_by}
 use Rattle.sched_base.specs.declared.Act.TheVariants as acts
 use Rattle.sched_base.specs.declared.Answer.TheVariants as answers
 
@@ -38,6 +38,6 @@ CrossedDoNotFit =
 -- the choice by deadlines of a queue is that among its lanes with entries
 abbrev pub ChoiceIsByLanes : Type 0
 ChoiceIsByLanes =
-    (ts : List Times) (s : Flat) (e : LaneWindow)
+    (ts : List Times) (s : Flat) (e : LaneState)
     → (passing ts s e ≡ passing_of ts (filled_lanes s) e) × (higher_lanes s e ≡ higher_of (filled_lanes s) e)
     × (chosen_against (passing ts s e) s e ≡ choice_against (passing_of ts (filled_lanes s) e) (filled_lanes s) e)

@@ -1,6 +1,6 @@
 use Rattle.std.proofs.Common.{◌≡◌, ◌∙◌, ap, option_map, rules}
 use Rattle.sched_base.specs.declared.buckets.Bucket.TheVariants.{Ui}
-use Rattle.flat_policy.specs.Queue.{lane}
+use Rattle.flat_policy.specs.Policy.Queue.{lane}
 use Rattle.bound_buckets.specs.Tops.{above_ui_of}
 use Rattle.bound_buckets.proofs.Above.{above_is}
 use Rattle.bound_buckets.proofs.above_ui.Goals as goal

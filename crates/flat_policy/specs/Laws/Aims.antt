@@ -2,8 +2,8 @@
 use Rattle.std.specs.List.{list_any}
 use Rattle.std.specs.Prelude.{Contains, Err, List, None, Ok, Option, is_err, is_none, ℕ, ◌≡◌, ◌≤◌}
 use Rattle.sched_base.specs.declared.Facts.{Facts}
-use Rattle.flat_policy.specs.Aim.{Look, MayEnter, aim, look_at, needed}
-use Rattle.flat_policy.specs.Setup.{SetupParts}
+use Rattle.flat_policy.specs.Policy.Aim.{Look, MayEnter, aim, look_at, needed}
+use Rattle.flat_policy.specs.Policy.Setup.{SetupParts}
 
 -- c is the lowest cluster that the aim needs and that was not looked at
 pub record IsLowestUnseen (setup : SetupParts) (looks : List (Option Look)) (t : Facts) (c : ℕ) : Type 0 where

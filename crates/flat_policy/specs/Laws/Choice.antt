@@ -1,6 +1,6 @@
 -- What a strict order of a list's members makes of the choice of the one that no other precedes.
 use Rattle.std.specs.Prelude.{Bool, Contains, List, None, Option, Some, [], false, fold, if◌then◌else◌, is_some, true, ◌≡◌, ◌↔◌, ◌∷◌}
-use Rattle.flat_policy.specs.Unpreceded.{IsUnpreceded, unpreceded}
+use Rattle.flat_policy.specs.Policy.Unpreceded.{IsUnpreceded, unpreceded}
 
 -- a test strictly orders the members of a list: none is before itself, what is before carries on,
 -- and two members of which neither is before the other are one

@@ -2,10 +2,10 @@
 use Rattle.std.specs.Prelude.{Bool, Contains, length, ℕ, ◌<◌}
 use Rattle.sched_base.specs.declared.Bucket.{Bucket}
 use Rattle.sched_base.specs.declared.Facts.{Facts}
-use Rattle.flat_policy.specs.ClusterSteps.{enter_event, look_event, offer_event, power_event, pull_event, refresh_event, select_event}
-use Rattle.flat_policy.specs.Queue.{Flat, Queued, empty_flat}
-use Rattle.flat_policy.specs.Setup.{SetupParts, group_count}
-use Rattle.flat_policy.specs.WellFormed.{WellFormed}
+use Rattle.flat_policy.specs.Policy.ClusterSteps.{enter_event, look_event, offer_event, power_event, pull_event, refresh_event, select_event}
+use Rattle.flat_policy.specs.Policy.Queue.{Flat, Queued, empty_flat}
+use Rattle.flat_policy.specs.Policy.Setup.{SetupParts, group_count}
+use Rattle.flat_policy.specs.Policy.WellFormed.{WellFormed}
 
 -- a queue without entries is well-formed
 abbrev pub EmptyIsWellFormed : Type 0

@@ -2,10 +2,10 @@
 use Rattle.std.specs.List.{list_any}
 use Rattle.std.specs.Prelude.{Contains, Some, filter, is_some, ℕ, ◌≡◌}
 use Rattle.flat_policy.specs.Laws.Choice.{OrdersMembers}
-use Rattle.flat_policy.specs.Offer.{MayTake, foreign_before, is_masked, mask_between, masked_before, may_take, offered_between, prefers}
-use Rattle.flat_policy.specs.Queue.{Flat, Queued}
-use Rattle.flat_policy.specs.Setup.{SetupParts, migrates}
-use Rattle.flat_policy.specs.WellFormed.{WellFormed}
+use Rattle.flat_policy.specs.Policy.Offer.{MayTake, foreign_before, is_masked, mask_between, masked_before, may_take, offered_between, prefers}
+use Rattle.flat_policy.specs.Policy.Queue.{Flat, Queued}
+use Rattle.flat_policy.specs.Policy.Setup.{SetupParts, migrates}
+use Rattle.flat_policy.specs.Policy.WellFormed.{WellFormed}
 
 -- an offered entry stands in the queue, and the other cluster may take it; one is offered exactly where some entry may be taken
 pub record Offers (setup : SetupParts) (from to : ℕ) (s : Flat) : Type 0 where

@@ -3,12 +3,12 @@ use Rattle.std.specs.Prelude.{List, Some, is_some, true, ℕ, ◌≡◌, ◌↔�
 use Rattle.bucket_tables.specs.declared.Lane.{Lane}
 use Rattle.flat_policy.specs.declared.setup.Times.{Times}
 use Rattle.flat_policy.specs.Laws.Choice.{OrdersMembers, has_member}
-use Rattle.flat_policy.specs.Moves.{goes_before, pick}
-use Rattle.flat_policy.specs.Precedence.{precedes}
-use Rattle.flat_policy.specs.Queue.{Flat, Queued, has_entries, in_lane, lane_entries}
-use Rattle.flat_policy.specs.Unpreceded.{IsUnpreceded}
-use Rattle.flat_policy.specs.WellFormed.{WellFormed}
-use Rattle.flat_policy.specs.Windows.{Choice, chosen, expired}
+use Rattle.flat_policy.specs.Policy.Moves.{goes_before, pick}
+use Rattle.flat_policy.specs.Policy.Precedence.{precedes}
+use Rattle.flat_policy.specs.Policy.Queue.{Flat, Queued, has_entries, in_lane, lane_entries}
+use Rattle.flat_policy.specs.Policy.Unpreceded.{IsUnpreceded}
+use Rattle.flat_policy.specs.Policy.WellFormed.{WellFormed}
+use Rattle.flat_policy.specs.Policy.Windows.{Choice, chosen, expired}
 
 -- which entry of a unit goes first is a strict order of all entries of a queue
 abbrev pub PrecedesOrders : Type 0

@@ -2,10 +2,10 @@
 use Rattle.std.specs.Prelude.{Contains, IsTrue, Some, length, ℕ, ◌<◌, ◌≡◌, ◌≤◌}
 use Rattle.sched_base.specs.declared.Facts.{Facts}
 use Rattle.sched_base.specs.declared.Step.{Step}
-use Rattle.flat_policy.specs.Machine.{Game, Hand, Sleeper, Yard, empty_game, fits_step, flat_at, hand_at, state_after}
-use Rattle.flat_policy.specs.Queue.{Flat, Queued}
-use Rattle.flat_policy.specs.Setup.{SetupParts, actor_count, cluster_count, group_count}
-use Rattle.flat_policy.specs.WellFormed.{EachQueued, WellFormedWithin}
+use Rattle.flat_policy.specs.Policy.Machine.{MachineState, Hand, Sleeper, Yard, empty_machine, fits_step, flat_at, hand_at, state_after}
+use Rattle.flat_policy.specs.Policy.Queue.{Flat, Queued}
+use Rattle.flat_policy.specs.Policy.Setup.{SetupParts, actor_count, cluster_count, group_count}
+use Rattle.flat_policy.specs.Policy.WellFormed.{EachQueued, WellFormedWithin}
 
 -- a thread's group, base and bound cluster are in range
 pub record ThreadFits (setup : SetupParts) (t : Facts) : Type 0 where
@@ -28,7 +28,7 @@ abbrev pub YardFits : SetupParts → Yard → Type 0
 YardFits setup y = (w : Sleeper) → Contains y.blocked w → ThreadFits setup w.facts
 
 -- a state is sound: it has a queue for each cluster and a hand for each actor, and all of them fit
-pub record Sound (setup : SetupParts) (g : Game) : Type 0 where
+pub record Sound (setup : SetupParts) (g : MachineState) : Type 0 where
   pub flats_length : length g.flats ≡ cluster_count setup
   pub hands_length : length g.hands ≡ actor_count setup
   pub flats : (c : ℕ) → c < cluster_count setup → FlatFits setup (flat_at g c)
@@ -37,8 +37,8 @@ pub record Sound (setup : SetupParts) (g : Game) : Type 0 where
 
 -- the state before any step is sound
 abbrev pub EmptyIsSound : Type 0
-EmptyIsSound = (setup : SetupParts) → Sound setup (empty_game setup)
+EmptyIsSound = (setup : SetupParts) → Sound setup (empty_machine setup)
 
 -- each step that the setup fits keeps a state sound
 abbrev pub StepsKeepSound : Type 0
-StepsKeepSound = (setup : SetupParts) (g : Game) (step : Step) → Sound setup g → IsTrue (fits_step setup step) → Sound setup (state_after setup g step)
+StepsKeepSound = (setup : SetupParts) (g : MachineState) (step : Step) → Sound setup g → IsTrue (fits_step setup step) → Sound setup (state_after setup g step)

@@ -2,11 +2,11 @@
 use Rattle.std.specs.List.{list_any}
 use Rattle.std.specs.Prelude.{false, true, ℕ, ◌≡◌}
 use Rattle.bucket_tables.specs.declared.Lane.{Lane}
-use Rattle.flat_policy.specs.Moves.{pick_in}
-use Rattle.flat_policy.specs.Precedence.{clutch_precedes, precedes, precedes_in_lane}
-use Rattle.flat_policy.specs.Queue.{Clutch, Flat, clutch_entries, has_entries, in_clutch, lane_entries}
-use Rattle.flat_policy.specs.Unpreceded.{unpreceded}
-use Rattle.flat_policy.specs.WellFormed.{WellFormed}
+use Rattle.flat_policy.specs.Policy.Moves.{pick_in}
+use Rattle.flat_policy.specs.Policy.Precedence.{clutch_precedes, precedes, precedes_in_lane}
+use Rattle.flat_policy.specs.Policy.Queue.{Clutch, Flat, clutch_entries, has_entries, in_clutch, lane_entries}
+use Rattle.flat_policy.specs.Policy.Unpreceded.{unpreceded}
+use Rattle.flat_policy.specs.Policy.WellFormed.{WellFormed}
 
 -- where the chosen lane has entries, the pick is the first of that lane
 abbrev pub PickStandsInLane : Type 0

@@ -8,7 +8,7 @@ use Rattle.flat_policy.specs.declared.texts.LineFault.{LineFault}
 use Rattle.flat_policy.specs.Texts.Answers.{answer_at, answer_text}
 use Rattle.flat_policy.specs.Texts.Pieces.{Worded, and_then, at_end, base_at, bound_at, bound_piece, bucket_at, bucket_piece, cluster_at, group_at, name_at, next_piece, number_within, pieces, spaced, word_among, worded}
 use Rattle.flat_policy.specs.Texts.Steps.{step_at, step_text}
-use Rattle.flat_policy.specs.Worker.{PowerAt, Program}
+use Rattle.flat_policy.specs.Runs.Worker.{PowerAt, Program}
 use Rattle.flat_policy.specs.declared.texts.LineFault.TheVariants as line_faults
 
 -- the answer that a line gives, if one: `=`, and the answer

@@ -4,7 +4,7 @@ use Rattle.std.specs.Prelude.{Bool, Err, List, None, Ok, Option, Result, Some, [
 use Rattle.sched_base.specs.declared.Bucket.{Bucket}
 use Rattle.sched_base.specs.declared.Bucket.TheVariants.{Bg, Df, Fg, Ini, Ui, Ut}
 use Rattle.flat_policy.specs.declared.texts.LineFault.{LineFault}
-use Rattle.flat_policy.specs.Setup.{all_buckets}
+use Rattle.flat_policy.specs.Policy.Setup.{all_buckets}
 use Rattle.flat_policy.specs.declared.texts.LineFault.TheVariants as line_faults
 
 -- a byte before the first of some pieces

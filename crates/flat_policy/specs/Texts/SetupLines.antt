@@ -6,8 +6,8 @@ use Rattle.flat_policy.specs.declared.setup.EdgeSpec.{EdgeSpec}
 use Rattle.flat_policy.specs.declared.setup.Field.{Field}
 use Rattle.flat_policy.specs.declared.setup.Times.{Times}
 use Rattle.flat_policy.specs.declared.texts.SetupFault.{SetupFault}
-use Rattle.flat_policy.specs.Ranges.{first_out_of_range, first_out_of_range_timed, parts_of, parts_of_timed}
-use Rattle.flat_policy.specs.Setup.{ClusterParts, SetupParts}
+use Rattle.flat_policy.specs.Policy.Ranges.{first_out_of_range, first_out_of_range_timed, parts_of, parts_of_timed}
+use Rattle.flat_policy.specs.Policy.Setup.{ClusterParts, SetupParts}
 use Rattle.flat_policy.specs.Texts.Pieces.{same_text}
 use Rattle.serde_json.specs.Data.{Data, Items, Members, item, member, no_items, no_members}
 use Rattle.serde_json.specs.Find.{as_array, as_number, as_object, as_u64, get_member}

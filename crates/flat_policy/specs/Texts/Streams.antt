@@ -7,13 +7,13 @@ use Rattle.sched_base.specs.declared.Entry.{Entry}
 use Rattle.flat_policy.specs.declared.texts.Given.{Given}
 use Rattle.flat_policy.specs.declared.texts.LineFault.{LineFault}
 use Rattle.flat_policy.specs.declared.texts.SetupFault.{SetupFault}
-use Rattle.flat_policy.specs.Machine.{Game, empty_game, fits_step, reply, state_after}
-use Rattle.flat_policy.specs.Setup.{SetupParts, cluster_count, group_count}
+use Rattle.flat_policy.specs.Policy.Machine.{MachineState, empty_machine, fits_step, reply, state_after}
+use Rattle.flat_policy.specs.Policy.Setup.{SetupParts, cluster_count, group_count}
 use Rattle.flat_policy.specs.Texts.Answers.{same_answer}
 use Rattle.flat_policy.specs.Texts.Lines.{RunSays, entry_text, line_limit, newline, power_line, program_line, read_run_line, read_step_line}
 use Rattle.flat_policy.specs.Texts.Pieces.{and_then}
 use Rattle.flat_policy.specs.Texts.SetupLines.{read_setup_text, setup_text}
-use Rattle.flat_policy.specs.Worker.{PowerAt, Program}
+use Rattle.flat_policy.specs.Runs.Worker.{PowerAt, Program}
 use Rattle.flat_policy.specs.declared.texts.LineFault.TheVariants as line_faults
 use Rattle.flat_policy.specs.declared.texts.SetupFault.TheVariants as setup_faults
 
@@ -87,14 +87,14 @@ contradicts None answer = false
 contradicts (Some given) answer = not (same_answer given answer)
 
 -- a line judged: its fault, or that its answer differs, or its reply, and then the lines after it
-abbrev pub judge_line : SetupParts → Game → ℕ → Result Given LineFault → (Game → Judged) → Judged
+abbrev pub judge_line : SetupParts → MachineState → ℕ → Result Given LineFault → (MachineState → Judged) → Judged
 judge_line setup g number (Err fault) more = stopped (bad_line number fault)
 judge_line setup g number (Ok given) more =
     if contradicts given.answer (reply setup g given.step).answer then stopped (differs number)
     else after_text (entry_text (reply setup g given.step)) (more (state_after setup g given.step))
 
 -- the lines of a trace, from a state and a line number on
-abbrev pub judge_lines : SetupParts → Stop → List ℕ → ℕ → List (List ℕ) → Game → Judged
+abbrev pub judge_lines : SetupParts → Stop → List ℕ → ℕ → List (List ℕ) → MachineState → Judged
 judge_lines setup stop rest number [] g = stopped (status_after_lines stop number rest)
 judge_lines setup stop rest number (l ∷ ls) g =
     judge_line setup g number (step_line setup l) (judge_lines setup stop rest (suc number) ls)
@@ -120,7 +120,7 @@ status_without_setup stop rest =
 abbrev pub judge_trace : Stop → List ℕ → List (List ℕ) → Judged
 judge_trace stop rest [] = stopped (status_without_setup stop rest)
 judge_trace stop rest (l ∷ ls) =
-    judge_setup (read_setup_line l) (λ setup. judge_lines setup stop rest 2 ls (empty_game setup))
+    judge_setup (read_setup_line l) (λ setup. judge_lines setup stop rest 2 ls (empty_machine setup))
 
 -- what a trace comes to, its output and its status
 abbrev pub judged : List ℕ → Stop → Judged

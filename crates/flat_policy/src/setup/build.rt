@@ -1,10 +1,10 @@
 //! Building and copying setups.
 
 ghost use Rattle.std.specs.Prelude.{◌≡◌, ◌≤◌, None, IfOk, length, true};
-ghost use Rattle.flat_policy.specs.BuildFaults.{field_named};
-ghost use Rattle.flat_policy.specs.IsSetup.{IsSetup};
-ghost use Rattle.flat_policy.specs.Ranges.{common_ranges, first_out, first_out_of_range, first_out_of_range_timed, parts_of, parts_of_timed, times_in_range};
-ghost use Rattle.flat_policy.specs.RowParts.{IsVersion, parts_of_rows};
+ghost use Rattle.flat_policy.specs.Policy.BuildFaults.{field_named};
+ghost use Rattle.flat_policy.specs.Policy.BuiltSetups.{IsSetup};
+ghost use Rattle.flat_policy.specs.Policy.Ranges.{common_ranges, first_out, first_out_of_range, first_out_of_range_timed, parts_of, parts_of_timed, times_in_range};
+ghost use Rattle.flat_policy.specs.Representation.RowParts.{IsVersion, parts_of_rows};
 
 use crate::setup::lists::{cluster_sizes, edge_specs, group_rows, time_table};
 use crate::setup::ranges::{actors_of, first_out_of_range, first_out_of_range_timed};

@@ -1,8 +1,8 @@
 //! The lists of a setup, out of rows of numbers.
 
 ghost use Rattle.std.specs.Prelude.{◌≡◌, ◌≤◌, All, IfOk, length, map, take};
-ghost use Rattle.flat_policy.specs.Ranges.{edge_of_row};
-ghost use Rattle.flat_policy.specs.SetupInside.{FitsEdge, FitsGroup, FitsSize, HasSixes, row_times, size_of_row, times_of_cluster};
+ghost use Rattle.flat_policy.specs.Policy.Ranges.{edge_of_row};
+ghost use Rattle.flat_policy.specs.Representation.SetupInside.{FitsEdge, FitsGroup, FitsSize, HasSixes, row_times, size_of_row, times_of_cluster};
 
 use crate::setup::{ClusterSize, EdgeSpec};
 use bucket_tables::{Table, each_bucket};

@@ -2,7 +2,7 @@
 
 ghost use Rattle.std.specs.Prelude.{◌≡◌, ◌≤◌, length, nat_le, sum_by, true};
 ghost use Rattle.std.specs.List.{list_all, list_any};
-ghost use Rattle.flat_policy.specs.Ranges.{all_below, between, clusters_in_range, common_ranges, edges_in_range, ends_differ, first_out, first_out_of_range, first_out_of_range_timed, groups_in_range, is_cluster_row, is_edge_row, is_times_row, nth, same_ends, threads_in_range, times_in_range};
+ghost use Rattle.flat_policy.specs.Policy.Ranges.{all_below, between, clusters_in_range, common_ranges, edges_in_range, ends_differ, first_out, first_out_of_range, first_out_of_range_timed, groups_in_range, is_cluster_row, is_edge_row, is_times_row, nth, same_ends, threads_in_range, times_in_range};
 
 use crate::setup::Field;
 

@@ -1,5 +1,5 @@
 use Rattle.std.proofs.Common.{◌≡◌, ◌≤◌, ◌-◌}
-use Rattle.flat_policy.specs.Usage.{decayed_by}
+use Rattle.flat_policy.specs.Policy.Usage.{decayed_by}
 use Rattle.timeshare_decay.proofs.decay.Given as goal
 
 abbrev pub invariant-loop-tick : goal.invariant-loop-tick

@@ -1,6 +1,6 @@
 -- The load of few steps.
 use Rattle.std.specs.Prelude.{◌≡◌}
-use Rattle.flat_policy.specs.Load.{LivesSomewhere, load_after, no_tally, queued_count}
+use Rattle.flat_policy.specs.Runs.LoadTrace.{LivesSomewhere, load_after, no_tally, queued_count}
 
 -- one step of the load makes a thread, whatever the seed
 abbrev pub OneStepMakes : Type 0

@@ -2,7 +2,7 @@
 use Rattle.std.specs.Prelude.{List, None, [], ℕ, ◌∷◌}
 use Rattle.sched_base.specs.declared.Act.{Act}
 use Rattle.flat_policy.specs.declared.journal.Line.{Line}
-use Rattle.flat_policy.specs.Interleaving.{Interleaves}
+use Rattle.flat_policy.specs.Runs.Interleaving.{Interleaves}
 use Rattle.sched_base.specs.declared.Act.TheVariants as acts
 use Rattle.sched_base.specs.declared.Answer.TheVariants as answers
 

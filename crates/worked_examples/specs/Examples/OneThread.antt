@@ -6,15 +6,15 @@ use Rattle.sched_base.specs.declared.Bucket.TheVariants.{Fg}
 use Rattle.sched_base.specs.declared.Entry.{Entry}
 use Rattle.sched_base.specs.declared.Facts.{Facts}
 use Rattle.flat_policy.specs.declared.journal.Line.{Line}
-use Rattle.flat_policy.specs.ClusterSteps.{enter_event, select_event}
-use Rattle.flat_policy.specs.Interleaving.{Interleaves, lines_at_cluster, lines_in_yard}
-use Rattle.flat_policy.specs.Machine.{GRun, empty_game, replies, states_after}
-use Rattle.flat_policy.specs.Own.{Own}
-use Rattle.flat_policy.specs.Places.{CRun, YRun}
-use Rattle.flat_policy.specs.Queue.{Flat, empty_flat}
+use Rattle.flat_policy.specs.Policy.ClusterSteps.{enter_event, select_event}
+use Rattle.flat_policy.specs.Runs.Interleaving.{Interleaves, lines_at_cluster, lines_in_yard}
+use Rattle.flat_policy.specs.Policy.Machine.{GRun, empty_machine, replies, states_after}
+use Rattle.flat_policy.specs.Runs.Hands.{Own}
+use Rattle.flat_policy.specs.Runs.Histories.{CRun, YRun}
+use Rattle.flat_policy.specs.Policy.Queue.{Flat, empty_flat}
 use Rattle.worked_examples.specs.Rows.Run.{Replies, Said, one_cluster, row_line}
 use Rattle.flat_policy.specs.Texts.Streams.{RunText}
-use Rattle.flat_policy.specs.Worker.{Program, RunParts, Worked}
+use Rattle.flat_policy.specs.Runs.Worker.{Program, RunParts, Worked}
 use Rattle.sched_base.specs.declared.Act.TheVariants as acts
 use Rattle.sched_base.specs.declared.Answer.TheVariants as answers
 
@@ -62,7 +62,7 @@ line_here e = record { entry = e; mark = mark_here e.step.act }
 
 -- the history: what the machine replies to the steps
 abbrev pub one_history : List Entry
-one_history = replies one_cluster (empty_game one_cluster) (map (λ (l : Said). l.step) one_thread_said)
+one_history = replies one_cluster (empty_machine one_cluster) (map (λ (l : Said). l.step) one_thread_said)
 
 abbrev pub one_log : List Line
 one_log = map line_here one_history
@@ -80,7 +80,7 @@ OneThreadReplies = Replies one_cluster one_thread_said
 
 -- the history is a run of the machine
 abbrev pub OneThreadRuns : Type 0
-OneThreadRuns = GRun one_cluster one_history (states_after one_cluster (empty_game one_cluster) (map (λ (l : Said). l.step) one_thread_said))
+OneThreadRuns = GRun one_cluster one_history (states_after one_cluster (empty_machine one_cluster) (map (λ (l : Said). l.step) one_thread_said))
 
 -- the log is what the actor's hand allows
 abbrev pub OneThreadIsOwn : Type 0

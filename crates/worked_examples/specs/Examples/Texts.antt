@@ -2,7 +2,7 @@
 use Rattle.std.specs.Prelude.{Err, List, None, Ok, Some, [], codes, false, replicate, ℕ, ◌∷◌, ◌≡◌}
 use Rattle.sched_base.specs.declared.Bucket.TheVariants.{Fg, Ini}
 use Rattle.sched_base.specs.declared.Step.{Step}
-use Rattle.flat_policy.specs.Machine.{empty_game}
+use Rattle.flat_policy.specs.Policy.Machine.{empty_machine}
 use Rattle.worked_examples.specs.Rows.Run.{one_cluster, two_clusters, without_warp}
 use Rattle.flat_policy.specs.Texts.Answers.{answer_text}
 use Rattle.flat_policy.specs.Texts.Lines.{power_line, program_line, read_run_line, read_step_line}
@@ -73,7 +73,7 @@ SetupReadings =
 
 -- the lines of a trace after the setup, judged: the output and the status
 abbrev pub judged_lines : List (List ℕ) → List ℕ → Judged
-judged_lines lines rest = judge_lines one_cluster end_met rest 2 lines (empty_game one_cluster)
+judged_lines lines rest = judge_lines one_cluster end_met rest 2 lines (empty_machine one_cluster)
 
 abbrev pub Judgements : Type 0
 Judgements =

@@ -6,8 +6,8 @@ use Rattle.sched_base.specs.declared.Entry.{Entry}
 use Rattle.sched_base.specs.declared.Step.{Step}
 use Rattle.flat_policy.specs.declared.setup.EdgeSpec.{EdgeSpec}
 use Rattle.flat_policy.specs.declared.setup.Times.{Times}
-use Rattle.flat_policy.specs.Machine.{empty_game, replies}
-use Rattle.flat_policy.specs.Setup.{ClusterParts, SetupParts, all_buckets, times_of_version_one}
+use Rattle.flat_policy.specs.Policy.Machine.{empty_machine, replies}
+use Rattle.flat_policy.specs.Policy.Setup.{ClusterParts, SetupParts, all_buckets, times_of_version_one}
 
 -- a line: a step, and its answer
 pub record Said : Type 0 where
@@ -23,7 +23,7 @@ said e = record { step = e.step; answer = e.answer }
 
 -- the machine, from the empty one, replies to the steps of the lines by these lines
 abbrev pub Replies : SetupParts → List Said → Type 0
-Replies setup lines = map said (replies setup (empty_game setup) (map (λ (l : Said). l.step) lines)) ≡ lines
+Replies setup lines = map said (replies setup (empty_machine setup) (map (λ (l : Said). l.step) lines)) ≡ lines
 
 -- the times of version 1, by bucket index
 abbrev pub times_of_version_one_all : List Times

@@ -1,5 +1,5 @@
 use Rattle.std.proofs.Common.{ap, cond, nat_eq, ℕ, ◌∙◌}
-use Rattle.flat_policy.specs.Setup.{migrates}
+use Rattle.flat_policy.specs.Policy.Setup.{migrates}
 use Rattle.edge_matrix.specs.EdgeTables.{EdgeTables}
 use Rattle.edge_matrix.proofs.Tables.{nat_eq-bit, number_at-table}
 use Rattle.edge_matrix.proofs.Edges.migrate.Goals as goal

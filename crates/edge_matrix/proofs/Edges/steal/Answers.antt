@@ -1,5 +1,5 @@
 use Rattle.std.proofs.Common.{ap, ◌∙◌}
-use Rattle.flat_policy.specs.Setup.{steal_mask}
+use Rattle.flat_policy.specs.Policy.Setup.{steal_mask}
 use Rattle.edge_matrix.specs.EdgeTables.{EdgeTables}
 use Rattle.edge_matrix.proofs.Tables.{number_at-table}
 use Rattle.edge_matrix.proofs.Edges.steal.Goals as goal

@@ -1,5 +1,5 @@
 use Rattle.std.proofs.Common.{ap}
-use Rattle.flat_policy.specs.Machine.{outcome_by}
+use Rattle.flat_policy.specs.Policy.Machine.{outcome_by}
 use Rattle.flat_policy.proofs.laws.refusals_change_nothing.Goals as goal
 
 pub returns : goal.returns

@@ -1,6 +1,6 @@
 use Rattle.std.proofs.Common.{drop, map, sum_by, ◌+◌, ◌<◌, ◌≡◌}
-use Rattle.flat_policy.specs.Setup.{home_among}
-use Rattle.flat_policy.specs.SetupInside.{parts_of_size}
+use Rattle.flat_policy.specs.Policy.Setup.{home_among}
+use Rattle.flat_policy.specs.Representation.SetupInside.{parts_of_size}
 use Rattle.flat_policy.proofs.setup.home_among.Given as goal
 
 abbrev pub invariant-loop-c : goal.invariant-loop-c

@@ -1,5 +1,5 @@
 use Rattle.std.proofs.Common.{arith, sym, ◌∙◌}
-use Rattle.flat_policy.specs.Setup.{migrates}
+use Rattle.flat_policy.specs.Policy.Setup.{migrates}
 use Rattle.migration.proofs.Scans.{any_end, any_here, any_later}
 use Rattle.migration.proofs.looks.moves.Goals as goal
 

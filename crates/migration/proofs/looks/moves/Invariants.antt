@@ -1,6 +1,6 @@
 use Rattle.std.proofs.Common.{◌-◌, ◌≡◌}
 use Rattle.std.specs.List.{list_any}
-use Rattle.flat_policy.specs.Setup.{SetupParts, migrates, numbers_below, numbers_from}
+use Rattle.flat_policy.specs.Policy.Setup.{SetupParts, migrates, numbers_below, numbers_from}
 use Rattle.edge_matrix.specs.EdgeTables.{edges_of}
 use Rattle.migration.proofs.looks.moves.Given as goal
 

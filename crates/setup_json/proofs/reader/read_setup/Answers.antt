@@ -1,5 +1,5 @@
 use Rattle.std.proofs.Common.{Result, subst, sym}
-use Rattle.flat_policy.specs.Setup.{SetupParts}
+use Rattle.flat_policy.specs.Policy.Setup.{SetupParts}
 use Rattle.flat_policy.specs.Texts.SetupLines.{json_of, read_setup_text}
 use Rattle.flat_policy.specs.declared.texts.SetupFault.{SetupFault}
 use Rattle.setup_json.specs.Reads.{Reads}

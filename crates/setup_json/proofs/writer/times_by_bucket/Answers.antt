@@ -1,4 +1,4 @@
-use Rattle.flat_policy.specs.Setup.{cluster_times, no_times}
+use Rattle.flat_policy.specs.Policy.Setup.{cluster_times, no_times}
 use Rattle.setup_json.proofs.Written.{six_same, times_six}
 use Rattle.setup_json.proofs.writer.times_by_bucket.Goals as goal
 

@@ -1,7 +1,7 @@
 use Rattle.std.proofs.Common.{List, [], arith, below_more, get_or, ℕ}
 use Rattle.std.proofs.lemmas.Grind.{common_steps}
 use Rattle.std.proofs.lemmas.List.{get_or_default}
-use Rattle.flat_policy.specs.SetupInside.{HasSixes}
+use Rattle.flat_policy.specs.Representation.SetupInside.{HasSixes}
 use Rattle.flat_policy.proofs.setup.lists.time_table.Goals as goal
 
 pub loop-c-preserved : goal.loop-c-preserved

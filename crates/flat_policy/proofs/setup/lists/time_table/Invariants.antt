@@ -1,5 +1,5 @@
 use Rattle.std.proofs.Common.{List, get_or, length, map, take, ℕ, ◌<◌, ◌≡◌}
-use Rattle.flat_policy.specs.SetupInside.{HasSixes, row_times, times_of_cluster}
+use Rattle.flat_policy.specs.Representation.SetupInside.{HasSixes, row_times, times_of_cluster}
 use Rattle.flat_policy.proofs.setup.lists.time_table.Given as goal
 
 abbrev pub invariant-loop-c : goal.invariant-loop-c

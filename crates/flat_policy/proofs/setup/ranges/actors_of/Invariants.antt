@@ -1,5 +1,5 @@
 use Rattle.std.proofs.Common.{take, sum_by, ◌*◌, ◌≡◌, ◌≤◌}
-use Rattle.flat_policy.specs.Ranges.{nth}
+use Rattle.flat_policy.specs.Policy.Ranges.{nth}
 use Rattle.flat_policy.proofs.setup.ranges.actors_of.Given as goal
 
 abbrev pub invariant-loop-row : goal.invariant-loop-row

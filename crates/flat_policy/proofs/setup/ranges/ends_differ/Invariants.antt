@@ -1,5 +1,5 @@
 use Rattle.std.proofs.Common.{drop, ◌≡◌}
-use Rattle.flat_policy.specs.Ranges.{ends_differ}
+use Rattle.flat_policy.specs.Policy.Ranges.{ends_differ}
 use Rattle.flat_policy.proofs.setup.ranges.ends_differ.Given as goal
 
 abbrev pub invariant-loop-k : goal.invariant-loop-k

@@ -1,6 +1,6 @@
 use Rattle.std.proofs.Common.{List, None, Option, Some, ap, sym, ◌∙◌}
-use Rattle.flat_policy.specs.Aim.{Look, Target, aim_among, cluster_or, lighter, targets}
-use Rattle.flat_policy.specs.Unpreceded.{unpreceded}
+use Rattle.flat_policy.specs.Policy.Aim.{Look, Target, aim_among, cluster_or, lighter, targets}
+use Rattle.flat_policy.specs.Policy.Unpreceded.{unpreceded}
 use Rattle.migration.specs.Looks.{seen}
 use Rattle.migration.specs.declared.looks.Note.{Note}
 use Rattle.migration.proofs.Best.{best_is_unpreceded, filter-all}

@@ -1,6 +1,6 @@
 use Rattle.std.proofs.Common.{Option, ap, arith, sym, ◌+◌, ◌-◌, ◌∙◌, ◌≡◌}
-use Rattle.flat_policy.specs.Aim.{Target}
-use Rattle.flat_policy.specs.Setup.{numbers_from}
+use Rattle.flat_policy.specs.Policy.Aim.{Target}
+use Rattle.flat_policy.specs.Policy.Setup.{numbers_from}
 use Rattle.migration.specs.Looks.{best_among, candidate_at, targeted, with_candidate}
 use Rattle.migration.proofs.Scans.{fold_end, fold_next}
 use Rattle.migration.proofs.looks.Looks.best.Goals as goal

@@ -1,5 +1,5 @@
 use Rattle.std.proofs.Common.{find, ◌-◌, ◌≡◌}
-use Rattle.flat_policy.specs.Setup.{SetupParts, numbers_below, numbers_from}
+use Rattle.flat_policy.specs.Policy.Setup.{SetupParts, numbers_below, numbers_from}
 use Rattle.edge_matrix.specs.EdgeTables.{edges_of}
 use Rattle.migration.specs.Looks.{lacks_look}
 use Rattle.migration.proofs.looks.Looks.missing.Given as goal

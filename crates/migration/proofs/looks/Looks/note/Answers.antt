@@ -1,6 +1,6 @@
 use Rattle.std.proofs.Common.{List, Option, Some, ap, slice_set, ◌∙◌}
 use Rattle.std.proofs.lemmas.List.{map-set}
-use Rattle.flat_policy.specs.Aim.{Look, loaded}
+use Rattle.flat_policy.specs.Policy.Aim.{Look, loaded}
 use Rattle.migration.specs.Looks.{noted}
 use Rattle.migration.specs.declared.looks.Note.TheVariants.{Load}
 use Rattle.migration.proofs.looks.Looks.note.Goals as goal

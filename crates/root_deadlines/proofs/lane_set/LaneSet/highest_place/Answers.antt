@@ -1,6 +1,6 @@
 use Rattle.std.proofs.Common.{arith, sym, ◌∙◌}
 use Rattle.std.proofs.lemmas.Option.{slice_get_past}
-use Rattle.flat_policy.specs.Queue.{timeshare_lanes}
+use Rattle.flat_policy.specs.Policy.Queue.{timeshare_lanes}
 use Rattle.root_deadlines.proofs.Lowest.{lowest_is}
 use Rattle.root_deadlines.proofs.lane_set.LaneSet.highest_place.Goals as goal
 

@@ -1,6 +1,6 @@
 use Rattle.std.proofs.Common.{sym}
 use Rattle.root_deadlines.proofs.Earliest.{first_none, more_are, one_is, pass_stays}
-use Rattle.flat_policy.specs.Queue.{timeshare_lanes}
+use Rattle.flat_policy.specs.Policy.Queue.{timeshare_lanes}
 use Rattle.root_deadlines.specs.Lanes.{filled_among}
 use Rattle.root_deadlines.proofs.lanes.Lanes.sooner_among.Goals as goal
 

@@ -1,7 +1,7 @@
 use Rattle.std.proofs.Common.{Bool, List, None, Some, ap, is_some, length, sym, ◌∙◌}
 use Rattle.std.proofs.lemmas.Bool.{false≢true, true_from_ne_false}
-use Rattle.flat_policy.specs.Queue.{LaneWindow}
-use Rattle.flat_policy.specs.Windows.{some_higher}
+use Rattle.flat_policy.specs.Policy.Queue.{LaneState}
+use Rattle.flat_policy.specs.Policy.Windows.{some_higher}
 use Rattle.root_deadlines.specs.Lanes.{filled_among}
 use Rattle.windows.specs.Views.{windows_over}
 use Rattle.windows.specs.WindowStates.{filled_of}
@@ -33,7 +33,7 @@ returns-then-is_empty-clause-chosen c =
     let none = none_waits higher w.lanes lanes (c.is_empty.ensures.0 c.if-is_empty.true) in
     chosen_from in_self.times in_self.lanes in_self.marks in_self.running c.self.invariant w c.self.view_is
     c.earliest.result c.unwrap-first.result c.unwrap-first.ensures c.earliest.ensures.first higher c.higher_than-higher.ensures
-    ∙ ap (λ (vs : List LaneWindow). Some (choice_over w.times c.unwrap-first.result vs)) none
+    ∙ ap (λ (vs : List LaneState). Some (choice_over w.times c.unwrap-first.result vs)) none
 
 pub returns-in-Some-clause-chosen : goal.returns-in-Some-clause-chosen
 returns-in-Some-clause-chosen c =

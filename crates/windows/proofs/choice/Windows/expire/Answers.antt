@@ -1,6 +1,6 @@
 use Rattle.std.proofs.Common.{◌≡◌, Bool, List, ap, sym, ◌∙◌, refl}
-use Rattle.flat_policy.specs.Queue.{LaneWindow, timeshare_lanes}
-use Rattle.flat_policy.specs.Windows.{expired_window}
+use Rattle.flat_policy.specs.Policy.Queue.{LaneState, timeshare_lanes}
+use Rattle.flat_policy.specs.Policy.Windows.{expired_window}
 use Rattle.root_deadlines.specs.Lanes.{filled_among}
 use Rattle.windows.specs.WindowStates.{WindowState}
 use Rattle.windows.proofs.Still.{none_running}
@@ -12,14 +12,14 @@ use Rattle.windows.proofs.choice.Windows.expire.Goals as goal
 pub returns-then-is_empty : goal.returns-then-is_empty
 returns-then-is_empty c =
     let i = c.self.inside in
-    let state : List LaneWindow → WindowState = λ ls. record { times = i.times; lanes = ls; filled = i.lanes.filled } in
+    let state : List LaneState → WindowState = λ ls. record { times = i.times; lanes = ls; filled = i.lanes.filled } in
     let none = ap (λ (fs : List Bool). filled_among fs timeshare_lanes) (sym c.self.invariant.running) ∙ c.is_empty.ensures.0 c.if-is_empty.true in
     rw (← c.self.view_is) (ap state (none_running i.times c.args.now timeshare_lanes i.lanes.deadlines i.marks none))
 
 pub returns : goal.returns
 returns c =
     let w = c.args.self.now in
-    let state : List LaneWindow → WindowState = λ ls. record { times = w.times; lanes = ls; filled = w.filled } in
+    let state : List LaneState → WindowState = λ ls. record { times = w.times; lanes = ls; filled = w.filled } in
     let each : c.expire_lane-10.new.self ≡ state (each_changed (expired_window w.times c.args.now) w.lanes timeshare_lanes) =
     rw (
       c.expire_lane-10.ensures,

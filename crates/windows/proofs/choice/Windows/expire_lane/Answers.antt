@@ -1,5 +1,5 @@
 use Rattle.std.proofs.Common.{ap, sym, ◌∙◌}
-use Rattle.flat_policy.specs.Windows.{expired_window}
+use Rattle.flat_policy.specs.Policy.Windows.{expired_window}
 use Rattle.windows.specs.OneLane.{lane_window}
 use Rattle.windows.proofs.Running.{rests_at, stays_of}
 use Rattle.windows.proofs.Still.{not_ending}

@@ -1,5 +1,5 @@
 use Rattle.std.proofs.Common.{◌≡◌, ap, sym, ◌∙◌}
-use Rattle.flat_policy.specs.Windows.{at_lane, renewed_deadline}
+use Rattle.flat_policy.specs.Policy.Windows.{at_lane, renewed_deadline}
 use Rattle.windows.specs.OneLane.{lane_window}
 use Rattle.windows.specs.WindowStates.{WindowState, window_of}
 use Rattle.windows.proofs.choice.Windows.fill.Goals as goal

@@ -1,7 +1,7 @@
 use Rattle.std.proofs.Common.{ap, sym, ◌∙◌}
 use Rattle.flat_policy.specs.declared.lanes.Kind.TheVariants.{Pass}
-use Rattle.flat_policy.specs.Setup.{times_for}
-use Rattle.flat_policy.specs.Windows.{window_after}
+use Rattle.flat_policy.specs.Policy.Setup.{times_for}
+use Rattle.flat_policy.specs.Policy.Windows.{window_after}
 use Rattle.windows.proofs.Running.{stays_of}
 use Rattle.windows.proofs.Still.{begun_stays}
 use Rattle.windows.proofs.choice.Windows.pass.Goals as goal

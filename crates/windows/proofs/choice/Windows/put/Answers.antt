@@ -1,5 +1,5 @@
 use Rattle.std.proofs.Common.{List, ap}
-use Rattle.flat_policy.specs.Queue.{LaneWindow}
+use Rattle.flat_policy.specs.Policy.Queue.{LaneState}
 use Rattle.windows.specs.WindowStates.{WindowState}
 use Rattle.windows.proofs.Places.{write_at}
 use Rattle.windows.proofs.choice.Windows.put.Goals as goal
@@ -7,7 +7,7 @@ use Rattle.windows.proofs.choice.Windows.put.Goals as goal
 pub returns : goal.returns
 returns c change same =
     let inside = c.self.inside in
-    let state : List LaneWindow → WindowState = λ ls. record { times = inside.times; lanes = ls; filled = inside.lanes.filled } in
+    let state : List LaneState → WindowState = λ ls. record { times = inside.times; lanes = ls; filled = inside.lanes.filled } in
     let read = rw (← c.self.view_is) at same in
     rw (c.renew.ensures, c.place.ensures.place, ← c.self.view_is)
     (ap state (write_at c.args.lane.bucket c.args.lane.bound change c.args.window.deadline

@@ -1,6 +1,6 @@
 use Rattle.std.proofs.Common.{ap, sym, ◌∙◌}
 use Rattle.flat_policy.specs.declared.lanes.Kind.TheVariants.{Starve}
-use Rattle.flat_policy.specs.Windows.{window_after}
+use Rattle.flat_policy.specs.Policy.Windows.{window_after}
 use Rattle.windows.proofs.Running.{stays_of}
 use Rattle.windows.proofs.Still.{opened_stays}
 use Rattle.windows.proofs.choice.Windows.starve.Goals as goal

@@ -11,7 +11,7 @@ use Rattle.flat_policy.specs.declared.lanes.Starved.{Starved}
 use Rattle.flat_policy.specs.declared.lanes.Starved.TheVariants.{No}
 use Rattle.flat_policy.specs.declared.lanes.Warp.{Warp}
 use Rattle.flat_policy.specs.declared.lanes.Warp.TheVariants.{Unused}
-use Rattle.flat_policy.specs.Usage.{Spans}
+use Rattle.flat_policy.specs.Policy.Usage.{Spans}
 
 -- an entry of a queue: the thread, its priority, when it arrived among all, and its order number
 pub record Queued : Type 0 where
@@ -26,7 +26,7 @@ order_number true arrival = negsuc arrival
 order_number false arrival = pos arrival
 
 -- the deadline and the windows of a timeshare lane
-pub record LaneWindow : Type 0 where
+pub record LaneState : Type 0 where
   pub lane : Lane
   pub deadline : ℕ
   pub warp : Warp
@@ -38,15 +38,15 @@ pub record Flat : Type 0 where
   pub entries : List Queued
   pub spans : List Spans
   pub turns : List (Option ℕ)
-  pub lanes : List LaneWindow
+  pub lanes : List LaneState
   pub last : ℕ
   pub next_arrival : ℕ
   pub next_turn : ℕ
   pub on : Bool
 
 -- a lane as a new cluster has it
-abbrev pub new_window : Lane → LaneWindow
-new_window l = record { lane = l; deadline = 0; warp = Unused; starved = No }
+abbrev pub new_lane : Lane → LaneState
+new_lane l = record { lane = l; deadline = 0; warp = Unused; starved = No }
 
 -- the empty queue, for so many groups
 abbrev pub empty_flat : ℕ → Flat
@@ -54,7 +54,7 @@ empty_flat groups = record {
   entries = [];
   spans = replicate (groups * 6) (record { used = 0; blocked = 0 });
   turns = replicate (groups * 6) None;
-  lanes = map new_window timeshare_lanes;
+  lanes = map new_lane timeshare_lanes;
   last = 0;
   next_arrival = 0;
   next_turn = 0;

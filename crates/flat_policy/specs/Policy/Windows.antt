@@ -11,10 +11,10 @@ use Rattle.flat_policy.specs.declared.lanes.Starved.TheVariants.{No, Since}
 use Rattle.flat_policy.specs.declared.lanes.Warp.{Warp}
 use Rattle.flat_policy.specs.declared.lanes.Warp.TheVariants.{Spent, Until, Unused}
 use Rattle.flat_policy.specs.declared.setup.Times.{Times}
-use Rattle.flat_policy.specs.Precedence.{greatest, unit_priority}
-use Rattle.flat_policy.specs.Queue.{Flat, LaneWindow, Queued, has_entries, lane, lane_entries, same_lane}
-use Rattle.flat_policy.specs.Setup.{times_for}
-use Rattle.flat_policy.specs.Unpreceded.{unpreceded}
+use Rattle.flat_policy.specs.Policy.Precedence.{greatest, unit_priority}
+use Rattle.flat_policy.specs.Policy.Queue.{Flat, LaneState, Queued, has_entries, lane, lane_entries, same_lane}
+use Rattle.flat_policy.specs.Policy.Setup.{times_for}
+use Rattle.flat_policy.specs.Policy.Unpreceded.{unpreceded}
 
 -- a warp whose end has come is spent
 abbrev pub expired_warp : ℕ → Warp → Warp
@@ -28,13 +28,13 @@ window_over quantum now No = false
 window_over quantum now (Since start) = nat_le (start + quantum) now
 
 -- the lane gets a new deadline and loses its starvation window
-abbrev pub renewed_deadline : List Times → ℕ → LaneWindow → LaneWindow
+abbrev pub renewed_deadline : List Times → ℕ → LaneState → LaneState
 renewed_deadline ts now l = record l { deadline = now + (times_for ts l.lane.bucket).wcel; starved = No }
 
 -- a lane after its windows expire
-abbrev pub expired_window : List Times → ℕ → LaneWindow → LaneWindow
+abbrev pub expired_window : List Times → ℕ → LaneState → LaneState
 expired_window ts now l =
-    let warped : LaneWindow = record l { warp = expired_warp now l.warp }
+    let warped : LaneState = record l { warp = expired_warp now l.warp }
     in if window_over (times_for ts l.lane.bucket).quantum now l.starved then renewed_deadline ts now warped else warped
 
 -- the queue after all windows expire
@@ -65,31 +65,31 @@ abbrev pub above_ui : Flat → Option Lane
 above_ui s = if ui_goes_first s then Some (better_ui_lane s) else None
 
 -- the timeshare lanes with entries
-abbrev pub filled_lanes : Flat → List LaneWindow
-filled_lanes s = filter (λ (l : LaneWindow). has_entries s l.lane) s.lanes
+abbrev pub filled_lanes : Flat → List LaneState
+filled_lanes s = filter (λ (l : LaneState). has_entries s l.lane) s.lanes
 
 -- a lane stands higher by bucket index, and in one bucket the bound one
 abbrev pub stands_higher : Lane → Lane → Bool
 stands_higher x y = nat_lt (index x.bucket) (index y.bucket) || ((index x.bucket == index y.bucket) && (x.bound && not y.bound))
 
 -- a lane is due before another by deadline, and at one deadline the higher one
-abbrev pub due_before : LaneWindow → LaneWindow → Bool
+abbrev pub due_before : LaneState → LaneState → Bool
 due_before x y = nat_lt x.deadline y.deadline || ((x.deadline == y.deadline) && stands_higher x.lane y.lane)
 
 -- of some lanes, the one that is due first
-abbrev pub earliest_of : List LaneWindow → Option LaneWindow
+abbrev pub earliest_of : List LaneState → Option LaneState
 earliest_of filled = unpreceded due_before filled
 
 -- the timeshare lane with entries that is due first
-abbrev pub earliest : Flat → Option LaneWindow
+abbrev pub earliest : Flat → Option LaneState
 earliest s = earliest_of (filled_lanes s)
 
 -- of some lanes, those whose bucket is higher than that of a lane
-abbrev pub higher_of : List LaneWindow → LaneWindow → List LaneWindow
-higher_of filled e = filter (λ (l : LaneWindow). nat_lt (index l.lane.bucket) (index e.lane.bucket)) filled
+abbrev pub higher_of : List LaneState → LaneState → List LaneState
+higher_of filled e = filter (λ (l : LaneState). nat_lt (index l.lane.bucket) (index e.lane.bucket)) filled
 
 -- the lanes with entries whose bucket is higher than that of a lane
-abbrev pub higher_lanes : Flat → LaneWindow → List LaneWindow
+abbrev pub higher_lanes : Flat → LaneState → List LaneState
 higher_lanes s e = higher_of (filled_lanes s) e
 
 -- a warp that is not spent
@@ -99,15 +99,15 @@ unspent (Until end) = true
 unspent Spent = false
 
 -- whether a lane may pass an earlier deadline: its bucket has a warp, and that is not spent
-abbrev pub may_pass : List Times → LaneWindow → Bool
+abbrev pub may_pass : List Times → LaneState → Bool
 may_pass ts l = not ((times_for ts l.lane.bucket).warp == 0) && unspent l.warp
 
 -- of some lanes, the highest that may pass e
-abbrev pub passing_of : List Times → List LaneWindow → LaneWindow → Option LaneWindow
-passing_of ts filled e = unpreceded (λ (x y : LaneWindow). stands_higher x.lane y.lane) (filter (may_pass ts) (higher_of filled e))
+abbrev pub passing_of : List Times → List LaneState → LaneState → Option LaneState
+passing_of ts filled e = unpreceded (λ (x y : LaneState). stands_higher x.lane y.lane) (filter (may_pass ts) (higher_of filled e))
 
 -- the highest lane with entries that may pass e
-abbrev pub passing : List Times → Flat → LaneWindow → Option LaneWindow
+abbrev pub passing : List Times → Flat → LaneState → Option LaneState
 passing ts s e = passing_of ts (filled_lanes s) e
 
 -- a choice: the lane, and how it came to be chosen; a UI lane has no kind
@@ -116,24 +116,24 @@ pub record Choice : Type 0 where
   pub kind : Option Kind
 
 -- the choice by deadlines: a lane that may pass, else the earliest, starved where a higher lane has entries
-abbrev pub chosen_behind : Bool → LaneWindow → Choice
+abbrev pub chosen_behind : Bool → LaneState → Choice
 chosen_behind true e = record { lane = e.lane; kind = Some Starve }
 chosen_behind false e = record { lane = e.lane; kind = Some Natural }
 
-abbrev pub some_higher : List LaneWindow → Bool
+abbrev pub some_higher : List LaneState → Bool
 some_higher [] = false
 some_higher (l ∷ ls) = true
 
-abbrev pub choice_against : Option LaneWindow → List LaneWindow → LaneWindow → Choice
+abbrev pub choice_against : Option LaneState → List LaneState → LaneState → Choice
 choice_against (Some l) filled e = record { lane = l.lane; kind = Some Pass }
 choice_against None filled e = chosen_behind (some_higher (higher_of filled e)) e
 
-abbrev pub chosen_against : Option LaneWindow → Flat → LaneWindow → Choice
+abbrev pub chosen_against : Option LaneState → Flat → LaneState → Choice
 chosen_against l s e = choice_against l (filled_lanes s) e
 
 -- the choice among some lanes, which are those with entries
-abbrev pub chosen_of : List Times → List LaneWindow → Option Choice
-chosen_of ts filled = option_map (λ (e : LaneWindow). choice_against (passing_of ts filled e) filled e) (earliest_of filled)
+abbrev pub chosen_of : List Times → List LaneState → Option Choice
+chosen_of ts filled = option_map (λ (e : LaneState). choice_against (passing_of ts filled e) filled e) (earliest_of filled)
 
 abbrev pub chosen_by_deadline : List Times → Flat → Option Choice
 chosen_by_deadline ts s = chosen_of ts (filled_lanes s)
@@ -158,14 +158,14 @@ opened_window now No = Since now
 opened_window now (Since start) = Since start
 
 -- the chosen lane after the choice
-abbrev pub window_after : List Times → ℕ → Kind → LaneWindow → LaneWindow
+abbrev pub window_after : List Times → ℕ → Kind → LaneState → LaneState
 window_after ts now Pass l = record l { warp = begun_warp (times_for ts l.lane.bucket).warp now l.warp }
 window_after ts now Starve l = record l { starved = opened_window now l.starved }
 window_after ts now Natural l = renewed_deadline ts now (record l { warp = Unused })
 
 -- one lane changes, and all others stay
-abbrev pub at_lane : Lane → (LaneWindow → LaneWindow) → List LaneWindow → List LaneWindow
-at_lane at f ls = map (λ (l : LaneWindow). if same_lane l.lane at then f l else l) ls
+abbrev pub at_lane : Lane → (LaneState → LaneState) → List LaneState → List LaneState
+at_lane at f ls = map (λ (l : LaneState). if same_lane l.lane at then f l else l) ls
 
 -- the queue after the window changes of a choice; a UI choice changes none
 abbrev pub windows_after : List Times → ℕ → Option Kind → Lane → Flat → Flat

@@ -5,7 +5,7 @@ use Rattle.sched_base.specs.declared.Act.{Act}
 use Rattle.sched_base.specs.declared.Entry.{Entry}
 use Rattle.sched_base.specs.declared.Spot.{Spot}
 use Rattle.flat_policy.specs.declared.journal.Line.{Line}
-use Rattle.flat_policy.specs.Places.{act_of, actor_of}
+use Rattle.flat_policy.specs.Runs.Histories.{act_of, actor_of}
 use Rattle.sched_base.specs.declared.Act.TheVariants as acts
 use Rattle.sched_base.specs.declared.Spot.TheVariants as spots
 
@@ -40,25 +40,25 @@ abbrev pub home_by_journals : List (List Line) → ℕ → ℕ
 home_by_journals clusters a = home_from a 0 clusters
 
 -- the place of a line, by the journals of the clusters
-abbrev pub place_by : List (List Line) → ℕ → Act → Option Spot
-place_by clusters a (acts.Make name group bucket base bound) = Some spots.Yard
-place_by clusters a (acts.Enter at head) = Some (spots.Cluster at)
-place_by clusters a acts.Select = Some (spots.Cluster (home_by_journals clusters a))
-place_by clusters a (acts.Offer at) = Some (spots.Cluster at)
-place_by clusters a (acts.Pull name) = Some (spots.Cluster (home_by_journals clusters a))
-place_by clusters a (acts.Look at) = Some (spots.Cluster at)
-place_by clusters a acts.Aim = None
-place_by clusters a (acts.Ran us) = None
-place_by clusters a acts.Sleep = Some spots.Yard
-place_by clusters a (acts.Wake name) = Some spots.Yard
-place_by clusters a acts.End = Some spots.Yard
-place_by clusters a acts.Blocked = Some spots.Yard
-place_by clusters a acts.Refresh = Some (spots.Cluster (home_by_journals clusters a))
-place_by clusters a (acts.Off at) = Some (spots.Cluster at)
-place_by clusters a (acts.On at) = Some (spots.Cluster at)
+abbrev pub spot_by_journals : List (List Line) → ℕ → Act → Option Spot
+spot_by_journals clusters a (acts.Make name group bucket base bound) = Some spots.Yard
+spot_by_journals clusters a (acts.Enter at head) = Some (spots.Cluster at)
+spot_by_journals clusters a acts.Select = Some (spots.Cluster (home_by_journals clusters a))
+spot_by_journals clusters a (acts.Offer at) = Some (spots.Cluster at)
+spot_by_journals clusters a (acts.Pull name) = Some (spots.Cluster (home_by_journals clusters a))
+spot_by_journals clusters a (acts.Look at) = Some (spots.Cluster at)
+spot_by_journals clusters a acts.Aim = None
+spot_by_journals clusters a (acts.Ran us) = None
+spot_by_journals clusters a acts.Sleep = Some spots.Yard
+spot_by_journals clusters a (acts.Wake name) = Some spots.Yard
+spot_by_journals clusters a acts.End = Some spots.Yard
+spot_by_journals clusters a acts.Blocked = Some spots.Yard
+spot_by_journals clusters a acts.Refresh = Some (spots.Cluster (home_by_journals clusters a))
+spot_by_journals clusters a (acts.Off at) = Some (spots.Cluster at)
+spot_by_journals clusters a (acts.On at) = Some (spots.Cluster at)
 
-abbrev pub place_of_line : List (List Line) → Line → Option Spot
-place_of_line clusters l = place_by clusters (actor_of l) (act_of l)
+abbrev pub spot_of_line : List (List Line) → Line → Option Spot
+spot_of_line clusters l = spot_by_journals clusters (actor_of l) (act_of l)
 
 -- whether a place is a cluster, or the yard
 abbrev pub is_cluster : ℕ → Option Spot → Bool
@@ -73,23 +73,23 @@ is_yard (Some spots.Yard) = true
 
 -- a list of lines restricted to a cluster, to the yard, and to an actor
 abbrev pub lines_at_cluster : List (List Line) → ℕ → List Line → List Line
-lines_at_cluster clusters c ls = filter (λ (l : Line). is_cluster c (place_of_line clusters l)) ls
+lines_at_cluster clusters c ls = filter (λ (l : Line). is_cluster c (spot_of_line clusters l)) ls
 
 abbrev pub lines_in_yard : List (List Line) → List Line → List Line
-lines_in_yard clusters ls = filter (λ (l : Line). is_yard (place_of_line clusters l)) ls
+lines_in_yard clusters ls = filter (λ (l : Line). is_yard (spot_of_line clusters l)) ls
 
 abbrev pub lines_of_actor : ℕ → List Line → List Line
 lines_of_actor a ls = filter (λ (l : Line). actor_of l == a) ls
 
 -- a place is that of a given journal, or none
-abbrev pub IsGivenPlace : ℕ → Option Spot → Type 0
-IsGivenPlace count None = ⊤
-IsGivenPlace count (Some (spots.Cluster c)) = c < count
-IsGivenPlace count (Some spots.Yard) = ⊤
+abbrev pub IsGivenSpot : ℕ → Option Spot → Type 0
+IsGivenSpot count None = ⊤
+IsGivenSpot count (Some (spots.Cluster c)) = c < count
+IsGivenSpot count (Some spots.Yard) = ⊤
 
 -- a line is of an actor with a given log, and has a given place or none
 abbrev pub IsGiven : List (List Line) → List (List Line) → Line → Type 0
-IsGiven clusters logs l = (actor_of l < length logs) × IsGivenPlace (length clusters) (place_of_line clusters l)
+IsGiven clusters logs l = (actor_of l < length logs) × IsGivenSpot (length clusters) (spot_of_line clusters l)
 
 -- a fact of each line
 abbrev pub EachLine : (Line → Type 0) → List Line → Type 0

@@ -3,12 +3,12 @@ use Rattle.std.specs.Prelude.{Bool, None, Option, Some, find, if◌then◌else�
 use Rattle.sched_base.specs.declared.Answer.{Answer}
 use Rattle.sched_base.specs.declared.Bucket.{Bucket}
 use Rattle.sched_base.specs.declared.Facts.{Facts}
-use Rattle.flat_policy.specs.Aim.{load}
-use Rattle.flat_policy.specs.Moves.{entered, new_entry, pick, removed, selected, settled_thread}
-use Rattle.flat_policy.specs.Offer.{offered_between}
-use Rattle.flat_policy.specs.Queue.{Flat, Queued}
-use Rattle.flat_policy.specs.Refresh.{refreshed, repriced_count}
-use Rattle.flat_policy.specs.Setup.{SetupParts, cluster_times, cpus_of, group_count, times_for}
+use Rattle.flat_policy.specs.Policy.Aim.{load}
+use Rattle.flat_policy.specs.Policy.Moves.{entered, new_entry, pick, removed, selected, settled_thread}
+use Rattle.flat_policy.specs.Policy.Offer.{offered_between}
+use Rattle.flat_policy.specs.Policy.Queue.{Flat, Queued}
+use Rattle.flat_policy.specs.Policy.Refresh.{refreshed, repriced_count}
+use Rattle.flat_policy.specs.Policy.Setup.{SetupParts, cluster_times, cpus_of, group_count, times_for}
 use Rattle.sched_base.specs.declared.Answer.TheVariants as answers
 
 -- what a step at a cluster comes to

@@ -3,11 +3,11 @@ use Rattle.std.specs.Prelude.{Bool, List, count_by, flat_map, fold, if◌then◌
 use Rattle.sched_base.specs.Bucket.{index}
 use Rattle.sched_base.specs.declared.Bucket.{Bucket}
 use Rattle.sched_base.specs.declared.Facts.{Facts}
-use Rattle.flat_policy.specs.Moves.{with_next_turn}
-use Rattle.flat_policy.specs.Precedence.{clutch_priority}
-use Rattle.flat_policy.specs.Queue.{Clutch, Flat, Queued, unit_entries}
-use Rattle.flat_policy.specs.Setup.{all_buckets, numbers_below}
-use Rattle.flat_policy.specs.Usage.{decay, priority}
+use Rattle.flat_policy.specs.Policy.Moves.{with_next_turn}
+use Rattle.flat_policy.specs.Policy.Precedence.{clutch_priority}
+use Rattle.flat_policy.specs.Policy.Queue.{Clutch, Flat, Queued, unit_entries}
+use Rattle.flat_policy.specs.Policy.Setup.{all_buckets, numbers_below}
+use Rattle.flat_policy.specs.Policy.Usage.{decay, priority}
 
 -- whether a bucket is UI
 abbrev pub is_ui : Bucket → Bool

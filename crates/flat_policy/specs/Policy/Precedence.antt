@@ -2,8 +2,8 @@
 use Rattle.std.specs.Prelude.{Bool, List, None, Option, Some, false, fold, if◌then◌else◌, int_lt, is_some, map, max, nat_lt, true, ℕ, ◌&&◌, ◌+◌, ◌==◌, ◌||◌}
 use Rattle.sched_base.specs.declared.Bucket.{Bucket}
 use Rattle.sched_base.specs.declared.Facts.{Facts}
-use Rattle.flat_policy.specs.Queue.{Clutch, Flat, Queued, clutch_entries, clutch_of, lane, lane_entries, spans_of, turn_of}
-use Rattle.flat_policy.specs.Usage.{bound_score, score}
+use Rattle.flat_policy.specs.Policy.Queue.{Clutch, Flat, Queued, clutch_entries, clutch_of, lane, lane_entries, spans_of, turn_of}
+use Rattle.flat_policy.specs.Policy.Usage.{bound_score, score}
 
 -- in one unit: the greater priority goes first, and at one priority the lower order number
 abbrev pub precedes : Queued → Queued → Bool

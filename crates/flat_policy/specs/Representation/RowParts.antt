@@ -1,9 +1,9 @@
 -- The setup that rows in range make, in either version.
 use Rattle.std.specs.Prelude.{All, List, [], map, ℕ, ◌∷◌, ◌≡◌, ◌⊎◌}
 use Rattle.bucket_tables.specs.Tables.{by_bucket, quantum_of, warp_of, wcel_of}
-use Rattle.flat_policy.specs.Ranges.{cluster_of_row, edge_of_row}
-use Rattle.flat_policy.specs.Setup.{SetupParts}
-use Rattle.flat_policy.specs.SetupInside.{times_of_cluster}
+use Rattle.flat_policy.specs.Policy.Ranges.{cluster_of_row, edge_of_row}
+use Rattle.flat_policy.specs.Policy.Setup.{SetupParts}
+use Rattle.flat_policy.specs.Representation.SetupInside.{times_of_cluster}
 
 -- the parts of rows
 abbrev pub parts_of_rows : List (List ℕ) → List (List ℕ) → List (List ℕ) → ℕ → List (List (List ℕ)) → ℕ → SetupParts

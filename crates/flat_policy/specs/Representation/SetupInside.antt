@@ -1,8 +1,8 @@
 -- How a setup lies in its fields.
 use Rattle.std.specs.Prelude.{All, List, length, map, slice_index, take, ℕ, ◌+◌, ◌<◌, ◌^◌, ◌≡◌}
-use Rattle.flat_policy.specs.IsSetup.{IsSetup}
-use Rattle.flat_policy.specs.Ranges.{times_of_rows}
-use Rattle.flat_policy.specs.Setup.{ClusterParts, SetupParts, actor_count, numbers_below}
+use Rattle.flat_policy.specs.Policy.BuiltSetups.{IsSetup}
+use Rattle.flat_policy.specs.Policy.Ranges.{times_of_rows}
+use Rattle.flat_policy.specs.Policy.Setup.{ClusterParts, SetupParts, actor_count, numbers_below}
 use Rattle.flat_policy.specs.declared.setup.ClusterSize.{ClusterSize}
 use Rattle.flat_policy.specs.declared.setup.Setup.TheInside.{Inside}
 use Rattle.flat_policy.specs.declared.setup.Times.{Times}

@@ -7,9 +7,9 @@ use Rattle.sched_base.specs.declared.Bucket.TheVariants.{Bg}
 use Rattle.sched_base.specs.declared.Facts.{Facts}
 use Rattle.sched_base.specs.declared.Step.{Step}
 use Rattle.flat_policy.specs.declared.setup.Times.{Times}
-use Rattle.flat_policy.specs.Machine.{Game, empty_game, hand_at, live_count, reply, state_after}
-use Rattle.flat_policy.specs.Queue.{Flat}
-use Rattle.flat_policy.specs.Setup.{SetupParts, all_buckets, home_of, times_of_version_one}
+use Rattle.flat_policy.specs.Policy.Machine.{MachineState, empty_machine, hand_at, live_count, reply, state_after}
+use Rattle.flat_policy.specs.Policy.Queue.{Flat}
+use Rattle.flat_policy.specs.Policy.Setup.{SetupParts, all_buckets, home_of, times_of_version_one}
 use Rattle.flat_policy.specs.Texts.Lines.{newline}
 use Rattle.sched_base.specs.declared.Act.TheVariants as acts
 use Rattle.sched_base.specs.declared.Answer.TheVariants as answers
@@ -80,7 +80,7 @@ tallied y (acts.On c) answer = y
 -- the load so far: the draw's state, the machine, the name that sleeps, and the tally
 pub record LoadState : Type 0 where
   pub draw : ℕ
-  pub game : Game
+  pub game : MachineState
   pub kept : Option ℕ
   pub tally : Tally
 
@@ -146,11 +146,11 @@ load_step st i = load_step_by st i (next_draw st.draw) (drawn (next_draw st.draw
 
 -- the load after so many steps
 abbrev pub load_after : ℕ → ℕ → LoadState
-load_after seed zero = record { draw = seed; game = empty_game load_setup; kept = None; tally = no_tally }
+load_after seed zero = record { draw = seed; game = empty_machine load_setup; kept = None; tally = no_tally }
 load_after seed (suc n) = load_step (load_after seed n) n
 
 -- how many threads are queued
-abbrev pub queued_count : Game → ℕ
+abbrev pub queued_count : MachineState → ℕ
 queued_count g = sum_by (λ (s : Flat). length s.entries) g.flats
 
 -- the summary, line by line

@@ -10,10 +10,10 @@ use Rattle.flat_policy.specs.declared.journal.Line.{Line}
 use Rattle.flat_policy.specs.declared.lanes.Kind.{Kind}
 use Rattle.flat_policy.specs.declared.lanes.Kind.TheVariants.{Natural, Pass, Starve}
 use Rattle.flat_policy.specs.declared.setup.Times.{Times}
-use Rattle.flat_policy.specs.Places.{CRun, act_of, flat_after, moment_of}
-use Rattle.flat_policy.specs.Queue.{Flat, LaneWindow, empty_flat, has_entries, lane_of, same_lane, timeshare_lanes}
-use Rattle.flat_policy.specs.Setup.{SetupParts, cluster_times, group_count, times_for}
-use Rattle.flat_policy.specs.Windows.{Choice, chosen, expired, window_over}
+use Rattle.flat_policy.specs.Runs.Histories.{CRun, act_of, flat_after, moment_of}
+use Rattle.flat_policy.specs.Policy.Queue.{Flat, LaneState, empty_flat, has_entries, lane_of, same_lane, timeshare_lanes}
+use Rattle.flat_policy.specs.Policy.Setup.{SetupParts, cluster_times, group_count, times_for}
+use Rattle.flat_policy.specs.Policy.Windows.{Choice, chosen, expired, window_over}
 use Rattle.sched_base.specs.declared.Act.TheVariants as acts
 
 -- what a line of a cluster is to the windows
@@ -64,13 +64,13 @@ abbrev pub chosen_kind : List Times → Flat → ℕ → Lane → Option Kind
 chosen_kind ts s now at = kind_at at (chosen ts (expired ts s now))
 
 -- the window of a timeshare lane
-abbrev pub window_of : Flat → Lane → Option LaneWindow
-window_of s at = find (λ (l : LaneWindow). same_lane l.lane at) s.lanes
+abbrev pub window_of : Flat → Lane → Option LaneState
+window_of s at = find (λ (l : LaneState). same_lane l.lane at) s.lanes
 
 -- whether a lane's starvation window ends by a moment, which renews its deadline
 abbrev pub window_ends : List Times → Flat → ℕ → Lane → Bool
 window_ends ts s now at =
-    option_map_or (λ (l : LaneWindow). window_over (times_for ts at.bucket).quantum now l.starved) (window_of s at) false
+    option_map_or (λ (l : LaneState). window_over (times_for ts at.bucket).quantum now l.starved) (window_of s at) false
 
 -- the first Pass of a lane since its last Natural choice, and after a choice
 abbrev pub first_pass_after : Option ℕ → ℕ → Option Kind → Option ℕ

@@ -7,11 +7,11 @@ use Rattle.sched_base.specs.declared.Answer.{Answer}
 use Rattle.sched_base.specs.declared.Bucket.{Bucket}
 use Rattle.sched_base.specs.declared.Facts.{Facts}
 use Rattle.flat_policy.specs.declared.journal.Line.{Line}
-use Rattle.flat_policy.specs.Aim.{needed}
-use Rattle.flat_policy.specs.Interleaving.{EachLine}
-use Rattle.flat_policy.specs.Own.{Own}
-use Rattle.flat_policy.specs.Places.{act_of, moment_of}
-use Rattle.flat_policy.specs.Setup.{SetupParts, cluster_count, cluster_times, home_of, migrates, numbers_below, rate_of, steal_mask, times_for}
+use Rattle.flat_policy.specs.Policy.Aim.{needed}
+use Rattle.flat_policy.specs.Runs.Interleaving.{EachLine}
+use Rattle.flat_policy.specs.Runs.Hands.{Own}
+use Rattle.flat_policy.specs.Runs.Histories.{act_of, moment_of}
+use Rattle.flat_policy.specs.Policy.Setup.{SetupParts, cluster_count, cluster_times, home_of, migrates, numbers_below, rate_of, steal_mask, times_for}
 use Rattle.sched_base.specs.declared.Act.TheVariants as acts
 use Rattle.sched_base.specs.declared.Answer.TheVariants as answers
 
@@ -69,8 +69,8 @@ abbrev pub charge_of : SetupParts → ℕ → Facts → Stage → ℕ
 charge_of setup c t s = min (times_for (cluster_times setup c) t.bucket).quantum (time_for (rate_of setup c) (s.target - t.work))
 
 -- the moment of a run that begins at a clock
-abbrev pub run_moment : ℕ → ℕ → ℕ
-run_moment clock charge = min (clock + charge) (2 ^ 40 - 1)
+abbrev pub charge_moment : ℕ → ℕ → ℕ
+charge_moment clock charge = min (clock + charge) (2 ^ 40 - 1)
 
 -- a line has an act
 abbrev pub Does : Act → Line → Type 0
@@ -99,27 +99,27 @@ Rests (Some span) (l ∷ []) = Does acts.Sleep l × (l.mark ≡ Some span)
 Rests sleep (l ∷ m ∷ ls) = ⊥
 
 -- after a run: a placing where work is left in the stage, otherwise the end or a sleep
-abbrev pub AfterRun : SetupParts → Stage → List Line → Option Facts → Type 0
-AfterRun setup s ls None = ⊥
-AfterRun setup s ls (Some t) = MatchBool (nat_lt t.work s.target) (Places setup t ls) (Rests s.sleep ls)
+abbrev pub AfterCharge : SetupParts → Stage → List Line → Option Facts → Type 0
+AfterCharge setup s ls None = ⊥
+AfterCharge setup s ls (Some t) = MatchBool (nat_lt t.work s.target) (Places setup t ls) (Rests s.sleep ls)
 
 -- the run of a thread in a stage, from a clock: one ran of the charge at its moment, and what follows
-abbrev pub RunsStage : SetupParts → ℕ → Facts → ℕ → Stage → List Line → Type 0
-RunsStage setup c t clock s [] = ⊥
-RunsStage setup c t clock s (l ∷ ls) =
-    Does (acts.Ran (charge_of setup c t s)) l × (moment_of l ≡ run_moment clock (charge_of setup c t s))
-    × AfterRun setup s ls l.entry.thread
+abbrev pub ChargesStage : SetupParts → ℕ → Facts → ℕ → Stage → List Line → Type 0
+ChargesStage setup c t clock s [] = ⊥
+ChargesStage setup c t clock s (l ∷ ls) =
+    Does (acts.Ran (charge_of setup c t s)) l × (moment_of l ≡ charge_moment clock (charge_of setup c t s))
+    × AfterCharge setup s ls l.entry.thread
 
 -- the run of a thread that a line at a clock took
-abbrev pub RunsIn : SetupParts → ℕ → Facts → ℕ → Option Stage → List Line → Type 0
-RunsIn setup c t clock None ls = ⊥
-RunsIn setup c t clock (Some s) ls = RunsStage setup c t clock s ls
+abbrev pub ChargesAt : SetupParts → ℕ → Facts → ℕ → Option Stage → List Line → Type 0
+ChargesAt setup c t clock None ls = ⊥
+ChargesAt setup c t clock (Some s) ls = ChargesStage setup c t clock s ls
 
 abbrev pub stage_of : List Program → Facts → Option Stage
 stage_of ps t = option_and_then (λ (p : Program). stage_at p t.work) (program_of ps t.name)
 
 abbrev pub Runs : RunParts → ℕ → Facts → ℕ → List Line → Type 0
-Runs run c t clock ls = RunsIn run.setup c t clock (stage_of run.programs t) ls
+Runs run c t clock ls = ChargesAt run.setup c t clock (stage_of run.programs t) ls
 
 -- the placing of a thread that a line took
 abbrev pub PlacesThread : SetupParts → List Line → Option Facts → Type 0
@@ -143,15 +143,15 @@ neighbours setup c =
     filter (λ j. not (j == c) && (migrates setup j c || not (steal_mask setup j c == 0))) (numbers_below (cluster_count setup))
 
 -- the run of the thread that a line took, if it took one; otherwise something else
-abbrev pub RunsOr : RunParts → ℕ → Line → List Line → Type 0 → Option Facts → Type 0
-RunsOr run c l ls Otherwise None = Otherwise
-RunsOr run c l ls Otherwise (Some t) = Runs run c t (moment_of l) ls
+abbrev pub ChargesOr : RunParts → ℕ → Line → List Line → Type 0 → Option Facts → Type 0
+ChargesOr run c l ls Otherwise None = Otherwise
+ChargesOr run c l ls Otherwise (Some t) = Runs run c t (moment_of l) ls
 
 -- the offers of neighbours in ascending order, up to the first that got a thread, which is run; where none did, the ending
 abbrev pub Offers : RunParts → ℕ → List ℕ → List Line → Type 0
 Offers run c [] ls = EndsWithout run.setup ls
 Offers run c (j ∷ js) [] = ⊥
-Offers run c (j ∷ js) (l ∷ ls) = Does (acts.Offer j) l × RunsOr run c l ls (Offers run c js ls) l.entry.thread
+Offers run c (j ∷ js) (l ∷ ls) = Does (acts.Offer j) l × ChargesOr run c l ls (Offers run c js ls) l.entry.thread
 
 -- what follows a select that got no thread: the offers where the queue was empty; no offer where the home is off
 abbrev pub AfterNone : RunParts → ℕ → List Line → Answer → Type 0
@@ -161,7 +161,7 @@ AfterNone run c ls _ = ⊥
 
 -- a select and what follows: the run of its thread where it got one
 abbrev pub SelectsAndGoesOn : RunParts → ℕ → Line → List Line → Type 0
-SelectsAndGoesOn run c l ls = Does acts.Select l × RunsOr run c l ls (AfterNone run c ls l.entry.answer) l.entry.thread
+SelectsAndGoesOn run c l ls = Does acts.Select l × ChargesOr run c l ls (AfterNone run c ls l.entry.answer) l.entry.thread
 
 -- the numbered steps of a turn: a wake and a placing; or that no thread is due, a select, and what follows
 abbrev pub SelectsAfterAsking : RunParts → ℕ → List Line → Type 0

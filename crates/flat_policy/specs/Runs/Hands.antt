@@ -5,10 +5,10 @@ use Rattle.sched_base.specs.Facts.{charged}
 use Rattle.sched_base.specs.declared.Act.{Act}
 use Rattle.sched_base.specs.declared.Facts.{Facts}
 use Rattle.flat_policy.specs.declared.journal.Line.{Line}
-use Rattle.flat_policy.specs.Aim.{aim}
-use Rattle.flat_policy.specs.Machine.{Hand, empty_hand, kept_hand, looked_hand, taking_hand}
-use Rattle.flat_policy.specs.Places.{NoMark, Says, act_of, actor_of, moment_of}
-use Rattle.flat_policy.specs.Setup.{SetupParts, home_of, rate_of}
+use Rattle.flat_policy.specs.Policy.Aim.{aim}
+use Rattle.flat_policy.specs.Policy.Machine.{Hand, empty_hand, kept_hand, looked_hand, taking_hand}
+use Rattle.flat_policy.specs.Runs.Histories.{NoMark, Says, act_of, actor_of, moment_of}
+use Rattle.flat_policy.specs.Policy.Setup.{SetupParts, home_of, rate_of}
 use Rattle.sched_base.specs.declared.Act.TheVariants as acts
 use Rattle.sched_base.specs.declared.Answer.TheVariants as answers
 

@@ -5,11 +5,11 @@ use Rattle.sched_base.specs.Facts.{settled}
 use Rattle.sched_base.specs.declared.Facts.{Facts}
 use Rattle.bucket_tables.specs.declared.Lane.{Lane}
 use Rattle.flat_policy.specs.declared.setup.Times.{Times}
-use Rattle.flat_policy.specs.Precedence.{clutch_priority, precedes_in_lane}
-use Rattle.flat_policy.specs.Queue.{Clutch, Flat, LaneWindow, Queued, clutch_entries, clutch_of, clutch_place, has_entries, in_lane, lane_of, order_number, spans_of, unit_entries}
-use Rattle.flat_policy.specs.Unpreceded.{unpreceded}
-use Rattle.flat_policy.specs.Usage.{Spans, decay, priority, with_spans}
-use Rattle.flat_policy.specs.Windows.{Choice, at_lane, chosen, expired, renewed_deadline, windows_after}
+use Rattle.flat_policy.specs.Policy.Precedence.{clutch_priority, precedes_in_lane}
+use Rattle.flat_policy.specs.Policy.Queue.{Clutch, Flat, LaneState, Queued, clutch_entries, clutch_of, clutch_place, has_entries, in_lane, lane_of, order_number, spans_of, unit_entries}
+use Rattle.flat_policy.specs.Policy.Unpreceded.{unpreceded}
+use Rattle.flat_policy.specs.Policy.Usage.{Spans, decay, priority, with_spans}
+use Rattle.flat_policy.specs.Policy.Windows.{Choice, at_lane, chosen, expired, renewed_deadline, windows_after}
 
 -- a thread as it enters: its usage decayed to now, and its pending spans taken
 abbrev pub settled_thread : ℕ → Facts → Facts
@@ -31,7 +31,7 @@ new_entry s settled head = record {
 }
 
 -- a lane that was empty gets a deadline and loses its starvation window; its warp stays
-abbrev pub lanes_filled : List Times → ℕ → Flat → Lane → List LaneWindow
+abbrev pub lanes_filled : List Times → ℕ → Flat → Lane → List LaneState
 lanes_filled ts now s at = if has_entries s at then s.lanes else at_lane at (renewed_deadline ts now) s.lanes
 
 -- a clutch bucket takes the next turn

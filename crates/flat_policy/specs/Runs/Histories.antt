@@ -8,12 +8,12 @@ use Rattle.sched_base.specs.declared.Answer.{Answer}
 use Rattle.sched_base.specs.declared.Bucket.{Bucket}
 use Rattle.sched_base.specs.declared.Facts.{Facts}
 use Rattle.flat_policy.specs.declared.journal.Line.{Line}
-use Rattle.flat_policy.specs.Aim.{MayEnter}
-use Rattle.flat_policy.specs.ClusterSteps.{Event, enter_event, look_event, named_entry, offer_event, power_event, pull_event, refresh_event, select_event, touched}
-use Rattle.flat_policy.specs.Machine.{fits_step, made_thread}
-use Rattle.flat_policy.specs.Queue.{Flat, Queued, empty_flat}
-use Rattle.flat_policy.specs.Setup.{SetupParts, group_count, home_of}
-use Rattle.flat_policy.specs.Unpreceded.{unpreceded}
+use Rattle.flat_policy.specs.Policy.Aim.{MayEnter}
+use Rattle.flat_policy.specs.Policy.ClusterSteps.{Event, enter_event, look_event, named_entry, offer_event, power_event, pull_event, refresh_event, select_event, touched}
+use Rattle.flat_policy.specs.Policy.Machine.{fits_step, made_thread}
+use Rattle.flat_policy.specs.Policy.Queue.{Flat, Queued, empty_flat}
+use Rattle.flat_policy.specs.Policy.Setup.{SetupParts, group_count, home_of}
+use Rattle.flat_policy.specs.Policy.Unpreceded.{unpreceded}
 use Rattle.sched_base.specs.declared.Act.TheVariants as acts
 use Rattle.sched_base.specs.declared.Answer.TheVariants as answers
 

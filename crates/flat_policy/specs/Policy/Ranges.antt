@@ -4,7 +4,7 @@ use Rattle.std.specs.Prelude.{Bool, List, None, Option, Some, [], if◌then◌el
 use Rattle.flat_policy.specs.declared.setup.EdgeSpec.{EdgeSpec}
 use Rattle.flat_policy.specs.declared.setup.Field.{Field}
 use Rattle.flat_policy.specs.declared.setup.Times.{Times}
-use Rattle.flat_policy.specs.Setup.{ClusterParts, SetupParts, all_buckets, numbers_below, times_of_version_one}
+use Rattle.flat_policy.specs.Policy.Setup.{ClusterParts, SetupParts, all_buckets, numbers_below, times_of_version_one}
 use Rattle.flat_policy.specs.declared.setup.Field.TheVariants as fields
 
 -- the numbers of a row

@@ -11,10 +11,10 @@ use Rattle.sched_base.specs.declared.Facts.{Facts}
 use Rattle.sched_base.specs.declared.Place.{Place}
 use Rattle.sched_base.specs.declared.Spot.{Spot}
 use Rattle.sched_base.specs.declared.Step.{Step}
-use Rattle.flat_policy.specs.Aim.{Look, aim, dark, loaded, may_enter, not_looked}
-use Rattle.flat_policy.specs.ClusterSteps.{Event, enter_event, look_event, named_entry, offer_event, power_event, pull_event, refresh_event, select_event}
-use Rattle.flat_policy.specs.Queue.{Flat, Queued, empty_flat}
-use Rattle.flat_policy.specs.Setup.{SetupParts, actor_count, cluster_count, group_count, home_of, preferred_cluster, rate_of}
+use Rattle.flat_policy.specs.Policy.Aim.{Look, aim, off, loaded, may_enter, not_looked}
+use Rattle.flat_policy.specs.Policy.ClusterSteps.{Event, enter_event, look_event, named_entry, offer_event, power_event, pull_event, refresh_event, select_event}
+use Rattle.flat_policy.specs.Policy.Queue.{Flat, Queued, empty_flat}
+use Rattle.flat_policy.specs.Policy.Setup.{SetupParts, actor_count, cluster_count, group_count, home_of, preferred_cluster, rate_of}
 use Rattle.sched_base.specs.declared.Act.TheVariants as acts
 use Rattle.sched_base.specs.declared.Answer.TheVariants as answers
 use Rattle.sched_base.specs.declared.Place.TheVariants as places
@@ -39,7 +39,7 @@ pub record Yard : Type 0 where
   pub last : ℕ
 
 -- the whole state
-pub record Game : Type 0 where
+pub record MachineState : Type 0 where
   pub flats : List Flat
   pub hands : List Hand
   pub yard : Yard
@@ -56,21 +56,21 @@ empty_hand setup last = record { thread = None; looks = no_looks setup; last = l
 abbrev pub empty_yard : Yard
 empty_yard = record { blocked = []; ended = []; made = []; last = 0 }
 
-abbrev pub empty_game : SetupParts → Game
-empty_game setup = record {
+abbrev pub empty_machine : SetupParts → MachineState
+empty_machine setup = record {
   flats = replicate (cluster_count setup) (empty_flat (group_count setup));
   hands = replicate (actor_count setup) (empty_hand setup 0);
   yard = empty_yard;
 }
 
 -- the queue of a cluster, and the hand of an actor
-abbrev pub flat_at : Game → ℕ → Flat
+abbrev pub flat_at : MachineState → ℕ → Flat
 flat_at g c = slice_index_or g.flats c (empty_flat 0)
 
 abbrev pub no_hand : Hand
 no_hand = record { thread = None; looks = []; last = 0 }
 
-abbrev pub hand_at : Game → ℕ → Hand
+abbrev pub hand_at : MachineState → ℕ → Hand
 hand_at g a = slice_index_or g.hands a no_hand
 
 -- the place of a step: a cluster, the yard, or none
@@ -95,13 +95,13 @@ abbrev pub spot_of : SetupParts → Step → Option Spot
 spot_of setup step = spot_by setup step.actor step.act
 
 -- the last moment of a place, 0 for none
-abbrev pub last_at : Game → Option Spot → ℕ
+abbrev pub last_at : MachineState → Option Spot → ℕ
 last_at g None = 0
 last_at g (Some (spots.Cluster c)) = (flat_at g c).last
 last_at g (Some spots.Yard) = g.yard.last
 
 -- the effective moment: the greatest of the handed one, the actor's last and the place's last
-abbrev pub effective_moment : SetupParts → Game → Step → ℕ
+abbrev pub effective_moment : SetupParts → MachineState → Step → ℕ
 effective_moment setup g step = max (max step.moment (hand_at g step.actor).last) (last_at g (spot_of setup step))
 
 -- where a name stands: the first of the queues, then the hands, then the yard that has it
@@ -123,7 +123,7 @@ is_blocked y name = list_any (λ (w : Sleeper). w.facts.name == name) y.blocked
 abbrev pub in_yard : Yard → ℕ → Place
 in_yard y name = if is_blocked y name then places.Blocked else (if list_any (λ n. n == name) y.ended then places.Ended else places.Nowhere)
 
-abbrev pub place_of : Game → ℕ → Place
+abbrev pub place_of : MachineState → ℕ → Place
 place_of g name = unwrap_or (queued_in g.flats 0 name) (unwrap_or (held_by g.hands 0 name) (in_yard g.yard name))
 
 -- a refusal, and whether its condition holds
@@ -161,11 +161,11 @@ not_allowed setup None c = refuse false answers.NotAllowed
 not_allowed setup (Some t) c = refuse (not (may_enter setup t c)) answers.NotAllowed
 
 -- the name does not stand in the home's queue
-abbrev pub not_queued : Game → Flat → ℕ → Refusal
+abbrev pub not_queued : MachineState → Flat → ℕ → Refusal
 not_queued g s name = refuse (is_none (named_entry s name)) (answers.NotQueued (place_of g name))
 
 -- the name is not blocked
-abbrev pub not_blocked : Game → ℕ → Refusal
+abbrev pub not_blocked : MachineState → ℕ → Refusal
 not_blocked g name = refuse (not (is_blocked g.yard name)) (answers.NotBlocked (place_of g name))
 
 -- the aim needs a look
@@ -178,7 +178,7 @@ look_first setup h None = refuse false answers.HandEmpty
 look_first setup h (Some t) = look_first_by (not_looked setup h.looks t)
 
 -- the refusals of each step, in their order
-abbrev pub refusals_by : SetupParts → Game → ℕ → Hand → Act → List Refusal
+abbrev pub refusals_by : SetupParts → MachineState → ℕ → Hand → Act → List Refusal
 refusals_by setup g a h (acts.Make name group bucket base bound) = hand_full h ∷ name_used g.yard name ∷ no_room setup g.yard ∷ []
 refusals_by setup g a h (acts.Enter c head) = hand_empty h ∷ not_allowed setup h.thread c ∷ []
 refusals_by setup g a h acts.Select = hand_full h ∷ []
@@ -196,7 +196,7 @@ refusals_by setup g a h (acts.Off c) = []
 refusals_by setup g a h (acts.On c) = []
 
 -- the refusal of a step, where it is refused
-abbrev pub refusal : SetupParts → Game → Step → Option Answer
+abbrev pub refusal : SetupParts → MachineState → Step → Option Answer
 refusal setup g step = first_refusal (refusals_by setup g step.actor (hand_at g step.actor) step.act)
 
 -- a hand after its actor's step: filled or emptied, which forgets its looks, or as it was with another last moment
@@ -211,40 +211,40 @@ taking_hand setup h None now = kept_hand h now
 taking_hand setup h (Some t) now = filled_hand setup t now
 
 -- a look, as the answer tells it
-abbrev pub seen_look : Answer → Look
-seen_look (answers.Load l) = loaded l
-seen_look _ = dark
+abbrev pub look_told : Answer → Look
+look_told (answers.Load l) = loaded l
+look_told _ = off
 
 abbrev pub looked_hand : Hand → ℕ → Answer → ℕ → Hand
-looked_hand h c answer now = record h { looks = slice_set h.looks c (Some (seen_look answer)); last = now }
+looked_hand h c answer now = record h { looks = slice_set h.looks c (Some (look_told answer)); last = now }
 
 -- one hand, one queue, or the yard changes
-abbrev pub with_hand : ℕ → Hand → Game → Game
+abbrev pub with_hand : ℕ → Hand → MachineState → MachineState
 with_hand a h g = record g { hands = slice_set g.hands a h }
 
-abbrev pub with_flat : ℕ → Flat → Game → Game
+abbrev pub with_flat : ℕ → Flat → MachineState → MachineState
 with_flat c s g = record g { flats = slice_set g.flats c s }
 
-abbrev pub with_yard : Yard → Game → Game
+abbrev pub with_yard : Yard → MachineState → MachineState
 with_yard y g = record g { yard = y }
 
 -- what an accepted step comes to
 pub record Outcome : Type 0 where
   pub answer : Answer
   pub thread : Option Facts
-  pub game : Game
+  pub game : MachineState
 
 -- a step at a cluster that puts what it takes into the actor's hand
-abbrev pub taking : SetupParts → Game → ℕ → Hand → ℕ → ℕ → Event → Outcome
+abbrev pub taking : SetupParts → MachineState → ℕ → Hand → ℕ → ℕ → Event → Outcome
 taking setup g a h c now e =
     record { answer = e.answer; thread = e.thread; game = with_hand a (taking_hand setup h e.thread now) (with_flat c e.flat g) }
 
 -- a step at a cluster that leaves the hand's thread and looks
-abbrev pub leaving_hand : Game → ℕ → Hand → ℕ → ℕ → Event → Outcome
+abbrev pub leaving_hand : MachineState → ℕ → Hand → ℕ → ℕ → Event → Outcome
 leaving_hand g a h c now e = record { answer = e.answer; thread = None; game = with_hand a (kept_hand h now) (with_flat c e.flat g) }
 
 -- a step that has no effect; no accepted step comes to it
-abbrev pub nothing_done : Game → Outcome
+abbrev pub nothing_done : MachineState → Outcome
 nothing_done g = record { answer = answers.Yes; thread = None; game = g }
 
 -- making a thread
@@ -252,7 +252,7 @@ abbrev pub made_thread : SetupParts → ℕ → ℕ → Bucket → ℕ → Optio
 made_thread setup name group bucket base bound now =
     fresh name group bucket base bound (unwrap_or bound (preferred_cluster setup group bucket)) now
 
-abbrev pub make_outcome : SetupParts → Game → ℕ → ℕ → Facts → Outcome
+abbrev pub make_outcome : SetupParts → MachineState → ℕ → ℕ → Facts → Outcome
 make_outcome setup g a now t = record {
   answer = answers.Yes;
   thread = Some t;
@@ -260,24 +260,24 @@ make_outcome setup g a now t = record {
 }
 
 -- entering a cluster's queue with the hand's thread
-abbrev pub enter_outcome_by : SetupParts → Game → ℕ → ℕ → ℕ → Event → Outcome
+abbrev pub enter_outcome_by : SetupParts → MachineState → ℕ → ℕ → ℕ → Event → Outcome
 enter_outcome_by setup g a c now e =
     record { answer = e.answer; thread = e.thread; game = with_hand a (empty_hand setup now) (with_flat c e.flat g) }
 
-abbrev pub enter_outcome : SetupParts → Game → ℕ → ℕ → Bool → ℕ → Option Facts → Outcome
+abbrev pub enter_outcome : SetupParts → MachineState → ℕ → ℕ → Bool → ℕ → Option Facts → Outcome
 enter_outcome setup g a c head now None = nothing_done g
 enter_outcome setup g a c head now (Some t) = enter_outcome_by setup g a c now (enter_event setup c t head now (flat_at g c))
 
 -- pulling a named thread
-abbrev pub pull_outcome : SetupParts → Game → ℕ → Hand → ℕ → ℕ → Option Queued → Outcome
+abbrev pub pull_outcome : SetupParts → MachineState → ℕ → Hand → ℕ → ℕ → Option Queued → Outcome
 pull_outcome setup g a h c now None = nothing_done g
 pull_outcome setup g a h c now (Some e) = taking setup g a h c now (pull_event e now (flat_at g c))
 
 -- looking at a cluster for the hand's bucket
-abbrev pub look_outcome_by : Game → ℕ → Hand → ℕ → ℕ → Event → Outcome
+abbrev pub look_outcome_by : MachineState → ℕ → Hand → ℕ → ℕ → Event → Outcome
 look_outcome_by g a h c now e = record { answer = e.answer; thread = None; game = with_hand a (looked_hand h c e.answer now) (with_flat c e.flat g) }
 
-abbrev pub look_outcome : SetupParts → Game → ℕ → Hand → ℕ → ℕ → Option Facts → Outcome
+abbrev pub look_outcome : SetupParts → MachineState → ℕ → Hand → ℕ → ℕ → Option Facts → Outcome
 look_outcome setup g a h c now None = nothing_done g
 look_outcome setup g a h c now (Some t) = look_outcome_by g a h c now (look_event setup c t.bucket now (flat_at g c))
 
@@ -286,21 +286,21 @@ abbrev pub aim_answer : Result ℕ ℕ → Answer
 aim_answer (Ok c) = answers.To c
 aim_answer (Err c) = answers.LookFirst c
 
-abbrev pub aim_outcome : SetupParts → Game → ℕ → Hand → ℕ → Option Facts → Outcome
+abbrev pub aim_outcome : SetupParts → MachineState → ℕ → Hand → ℕ → Option Facts → Outcome
 aim_outcome setup g a h now None = nothing_done g
 aim_outcome setup g a h now (Some t) =
     record { answer = aim_answer (aim setup h.looks t); thread = None; game = with_hand a (kept_hand h now) g }
 
 -- charging the hand's thread
-abbrev pub ran_outcome_by : Game → ℕ → Hand → ℕ → Facts → Outcome
+abbrev pub ran_outcome_by : MachineState → ℕ → Hand → ℕ → Facts → Outcome
 ran_outcome_by g a h now t = record { answer = answers.Work t.work; thread = Some t; game = with_hand a (record h { thread = Some t; last = now }) g }
 
-abbrev pub ran_outcome : SetupParts → Game → ℕ → Hand → ℕ → ℕ → Option Facts → Outcome
+abbrev pub ran_outcome : SetupParts → MachineState → ℕ → Hand → ℕ → ℕ → Option Facts → Outcome
 ran_outcome setup g a h us now None = nothing_done g
 ran_outcome setup g a h us now (Some t) = ran_outcome_by g a h now (charged us (rate_of setup (home_of setup a)) t)
 
 -- putting the hand's thread among the blocked ones
-abbrev pub sleep_outcome : SetupParts → Game → ℕ → ℕ → Option Facts → Outcome
+abbrev pub sleep_outcome : SetupParts → MachineState → ℕ → ℕ → Option Facts → Outcome
 sleep_outcome setup g a now None = nothing_done g
 sleep_outcome setup g a now (Some t) = record {
   answer = answers.Yes;
@@ -318,7 +318,7 @@ abbrev pub sleepers_without : ℕ → List Sleeper → List Sleeper
 sleepers_without name ws = filter (λ (w : Sleeper). not (w.facts.name == name)) ws
 
 -- waking a blocked thread: the span since it went to sleep is to be counted
-abbrev pub wake_outcome_by : SetupParts → Game → ℕ → ℕ → Facts → Outcome
+abbrev pub wake_outcome_by : SetupParts → MachineState → ℕ → ℕ → Facts → Outcome
 wake_outcome_by setup g a now t = record {
   answer = answers.Yes;
   thread = Some t;
@@ -326,12 +326,12 @@ wake_outcome_by setup g a now t = record {
       (with_yard (record g.yard { blocked = sleepers_without t.name g.yard.blocked; last = now }) g);
 }
 
-abbrev pub wake_outcome : SetupParts → Game → ℕ → ℕ → Option Sleeper → Outcome
+abbrev pub wake_outcome : SetupParts → MachineState → ℕ → ℕ → Option Sleeper → Outcome
 wake_outcome setup g a now None = nothing_done g
 wake_outcome setup g a now (Some w) = wake_outcome_by setup g a now (rested (now - w.since) w.facts)
 
 -- ending the hand's thread
-abbrev pub end_outcome : SetupParts → Game → ℕ → ℕ → Option Facts → Outcome
+abbrev pub end_outcome : SetupParts → MachineState → ℕ → ℕ → Option Facts → Outcome
 end_outcome setup g a now None = nothing_done g
 end_outcome setup g a now (Some t) = record {
   answer = answers.Yes;
@@ -340,7 +340,7 @@ end_outcome setup g a now (Some t) = record {
 }
 
 -- counting the blocked threads
-abbrev pub blocked_outcome : Game → ℕ → Hand → ℕ → Outcome
+abbrev pub blocked_outcome : MachineState → ℕ → Hand → ℕ → Outcome
 blocked_outcome g a h now = record {
   answer = answers.Left (length g.yard.blocked);
   thread = None;
@@ -348,7 +348,7 @@ blocked_outcome g a h now = record {
 }
 
 -- what each accepted step comes to
-abbrev pub accepted_by : SetupParts → Game → ℕ → Hand → ℕ → Act → Outcome
+abbrev pub accepted_by : SetupParts → MachineState → ℕ → Hand → ℕ → Act → Outcome
 accepted_by setup g a h now (acts.Make name group bucket base bound) = make_outcome setup g a now (made_thread setup name group bucket base bound now)
 accepted_by setup g a h now (acts.Enter c head) = enter_outcome setup g a c head now h.thread
 accepted_by setup g a h now acts.Select =
@@ -369,16 +369,16 @@ accepted_by setup g a h now (acts.Off c) = leaving_hand g a h c now (power_event
 accepted_by setup g a h now (acts.On c) = leaving_hand g a h c now (power_event true now (flat_at g c))
 
 -- a refused step leaves all as it was
-abbrev pub outcome_by : SetupParts → Game → Step → Option Answer → Outcome
+abbrev pub outcome_by : SetupParts → MachineState → Step → Option Answer → Outcome
 outcome_by setup g step (Some answer) = record { answer = answer; thread = None; game = g }
 outcome_by setup g step None = accepted_by setup g step.actor (hand_at g step.actor) (effective_moment setup g step) step.act
 
 -- what a step comes to
-abbrev pub outcome : SetupParts → Game → Step → Outcome
+abbrev pub outcome : SetupParts → MachineState → Step → Outcome
 outcome setup g step = outcome_by setup g step (refusal setup g step)
 
 -- the reply: the step at its effective moment, its answer, and the thread that it moved or charged
-abbrev pub reply : SetupParts → Game → Step → Entry
+abbrev pub reply : SetupParts → MachineState → Step → Entry
 reply setup g step = record {
   step = record step { moment = effective_moment setup g step };
   answer = (outcome setup g step).answer;
@@ -386,15 +386,15 @@ reply setup g step = record {
 }
 
 -- the state after a step
-abbrev pub state_after : SetupParts → Game → Step → Game
+abbrev pub state_after : SetupParts → MachineState → Step → MachineState
 state_after setup g step = (outcome setup g step).game
 
 -- the replies to a list of steps, and the state after them
-abbrev pub replies : SetupParts → Game → List Step → List Entry
+abbrev pub replies : SetupParts → MachineState → List Step → List Entry
 replies setup g [] = []
 replies setup g (step ∷ steps) = reply setup g step ∷ replies setup (state_after setup g step) steps
 
-abbrev pub states_after : SetupParts → Game → List Step → Game
+abbrev pub states_after : SetupParts → MachineState → List Step → MachineState
 states_after setup g [] = g
 states_after setup g (step ∷ steps) = states_after setup (state_after setup g step) steps
 
@@ -421,14 +421,14 @@ abbrev pub fits_step : SetupParts → Step → Bool
 fits_step setup step = nat_lt step.moment (2 ^ 40) && (nat_lt step.actor (actor_count setup) && fits_act setup step.act)
 
 -- a run from a state: each line is a step that the setup fits, and is what the machine replies to it
-abbrev pub RunsFrom : SetupParts → Game → List Entry → Game → Type 0
+abbrev pub RunsFrom : SetupParts → MachineState → List Entry → MachineState → Type 0
 RunsFrom setup g [] end = end ≡ g
 RunsFrom setup g (e ∷ es) end =
     IsTrue (fits_step setup e.step) × (reply setup g e.step ≡ e) × RunsFrom setup (state_after setup g e.step) es end
 
 -- a run from the empty machine
-abbrev pub GRun : SetupParts → List Entry → Game → Type 0
-GRun setup history end = RunsFrom setup (empty_game setup) history end
+abbrev pub GRun : SetupParts → List Entry → MachineState → Type 0
+GRun setup history end = RunsFrom setup (empty_machine setup) history end
 
 -- how often a name stands in the queues, the hands, and among the blocked and the ended threads
 abbrev pub count_queued : ℕ → Flat → ℕ
@@ -440,9 +440,9 @@ count_held name h = if holds name h.thread then 1 else 0
 abbrev pub count_in_yard : ℕ → Yard → ℕ
 count_in_yard name y = count_by (λ (w : Sleeper). w.facts.name == name) y.blocked + count_by (λ n. n == name) y.ended
 
-abbrev pub place_count : Game → ℕ → ℕ
+abbrev pub place_count : MachineState → ℕ → ℕ
 place_count g name = sum_by (count_queued name) g.flats + sum_by (count_held name) g.hands + count_in_yard name g.yard
 
 -- the number of places that each name should have: 1 where it was made, 0 otherwise
-abbrev pub expected_count : Game → ℕ → ℕ
+abbrev pub expected_count : MachineState → ℕ → ℕ
 expected_count g name = if list_any (λ n. n == name) g.yard.made then 1 else 0

@@ -4,10 +4,10 @@ use Rattle.sched_base.specs.Bucket.{index}
 use Rattle.sched_base.specs.declared.Bucket.{Bucket}
 use Rattle.sched_base.specs.declared.Facts.{Facts}
 use Rattle.flat_policy.specs.declared.setup.Times.{Times}
-use Rattle.flat_policy.specs.Offer.{is_unbound}
-use Rattle.flat_policy.specs.Queue.{Flat, Queued}
-use Rattle.flat_policy.specs.Setup.{SetupParts, cluster_count, edge_weight, migrates, numbers_below}
-use Rattle.flat_policy.specs.Unpreceded.{unpreceded}
+use Rattle.flat_policy.specs.Policy.Offer.{is_unbound}
+use Rattle.flat_policy.specs.Policy.Queue.{Flat, Queued}
+use Rattle.flat_policy.specs.Policy.Setup.{SetupParts, cluster_count, edge_weight, migrates, numbers_below}
+use Rattle.flat_policy.specs.Policy.Unpreceded.{unpreceded}
 
 -- whether a thread may enter a cluster: the one that it is bound to, or the preferred one and those that it may move to from there
 abbrev pub may_enter_by : SetupParts → Option ℕ → ℕ → ℕ → Bool
@@ -28,7 +28,7 @@ load times cpus s b =
 -- what a look at a cluster saw
 pub data Look : Type 0 where
   loaded : ℕ → Look
-  dark : Look
+  off : Look
 
 -- the looks of a hand, by cluster
 abbrev pub look_at : List (Option Look) → ℕ → Option Look
@@ -57,7 +57,7 @@ pub record Target : Type 0 where
 
 abbrev pub target_at : SetupParts → ℕ → ℕ → Option Look → Option Target
 target_at setup prefer c (Some (loaded l)) = Some (record { cluster = c; weighed = l + edge_weight setup prefer c })
-target_at setup prefer c (Some dark) = None
+target_at setup prefer c (Some off) = None
 target_at setup prefer c None = None
 
 -- the clusters that a thread may move to and whose look is a load
@@ -76,7 +76,7 @@ cluster_or prefer (Some x) = x.cluster
 -- where it is off, the best of all; the preferred cluster where there is none
 abbrev pub aim_among : ℕ → Option Look → List Target → ℕ
 aim_among prefer (Some (loaded l)) xs = cluster_or prefer (unpreceded lighter (filter (λ (x : Target). nat_lt x.weighed l) xs))
-aim_among prefer (Some dark) xs = cluster_or prefer (unpreceded lighter xs)
+aim_among prefer (Some off) xs = cluster_or prefer (unpreceded lighter xs)
 aim_among prefer None xs = prefer
 
 -- the aim of a thread: a cluster, or the lowest cluster that has to be looked at first

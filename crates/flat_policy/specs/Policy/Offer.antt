@@ -2,10 +2,10 @@
 use Rattle.std.specs.Prelude.{Bool, IsTrue, None, Option, Some, filter, if◌then◌else◌, is_some, nat_lt, not, ℕ, ◌&&◌, ◌==◌, ◌||◌}
 use Rattle.sched_base.specs.Bucket.{index}
 use Rattle.sched_base.specs.declared.Facts.{Facts}
-use Rattle.flat_policy.specs.Precedence.{precedes, precedes_in_lane}
-use Rattle.flat_policy.specs.Queue.{Flat, Queued}
-use Rattle.flat_policy.specs.Setup.{SetupParts, mask_has, migrates, steal_mask}
-use Rattle.flat_policy.specs.Unpreceded.{unpreceded}
+use Rattle.flat_policy.specs.Policy.Precedence.{precedes, precedes_in_lane}
+use Rattle.flat_policy.specs.Policy.Queue.{Flat, Queued}
+use Rattle.flat_policy.specs.Policy.Setup.{SetupParts, mask_has, migrates, steal_mask}
+use Rattle.flat_policy.specs.Policy.Unpreceded.{unpreceded}
 
 -- the bucket indices that may be taken along the edge from one cluster to another, as the bits of a number:
 -- all six where the first is off and threads may move along the edge, otherwise those of the edge

@@ -2,7 +2,7 @@
 use Rattle.std.specs.Prelude.{All, AllPairs, length, map, ℕ, ◌<◌, ◌≡◌, ◌≢◌, ◌≤◌, ◌⊎◌}
 use Rattle.std.specs.Prelude.{List}
 use Rattle.sched_base.specs.declared.Bucket.TheVariants.{Ui}
-use Rattle.flat_policy.specs.Setup.{ClusterParts, SetupParts, actor_count, all_buckets, cluster_count, group_count, times_for, times_of_version_one}
+use Rattle.flat_policy.specs.Policy.Setup.{ClusterParts, SetupParts, actor_count, all_buckets, cluster_count, group_count, times_for, times_of_version_one}
 use Rattle.flat_policy.specs.declared.setup.EdgeSpec.{EdgeSpec}
 use Rattle.flat_policy.specs.declared.setup.Times.{Times}
 

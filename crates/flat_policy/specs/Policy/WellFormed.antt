@@ -1,7 +1,7 @@
 -- What holds of every queue that steps can reach.
 use Rattle.std.specs.List.{list_any}
 use Rattle.std.specs.Prelude.{List, None, Option, Some, [], is_some, length, map, negsuc, pos, ℕ, ◌*◌, ◌<◌, ◌∷◌, ◌≡◌, ◌≢◌, ◌≤◌, ◌⊎◌}
-use Rattle.flat_policy.specs.Queue.{Clutch, Flat, LaneWindow, Queued, in_clutch, timeshare_lanes, turn_of}
+use Rattle.flat_policy.specs.Policy.Queue.{Clutch, Flat, LaneState, Queued, in_clutch, timeshare_lanes, turn_of}
 
 -- a fact of each entry
 abbrev pub EachQueued : (Queued → Type 0) → List Queued → Type 0
@@ -40,7 +40,7 @@ pub record WellFormedWithin (limit groups : ℕ) (s : Flat) : Type 0 where
   pub turns_where_entries : (k : Clutch) → k.group < groups → is_some (turn_of s k) ≡ list_any (in_clutch k) s.entries
   pub spans_length : length s.spans ≡ groups * 6
   pub turns_length : length s.turns ≡ groups * 6
-  pub ten_lanes : map (λ (l : LaneWindow). l.lane) s.lanes ≡ timeshare_lanes
+  pub ten_lanes : map (λ (l : LaneState). l.lane) s.lanes ≡ timeshare_lanes
 
 -- no queue has more than 4096 entries
 abbrev pub WellFormed : ℕ → Flat → Type 0

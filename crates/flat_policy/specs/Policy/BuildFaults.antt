@@ -1,6 +1,6 @@
 -- What the answers of building a setup say.
 use Rattle.std.specs.Prelude.{Err, None, Ok, Option, Result, Some}
-use Rattle.flat_policy.specs.Setup.{SetupParts}
+use Rattle.flat_policy.specs.Policy.Setup.{SetupParts}
 use Rattle.flat_policy.specs.declared.setup.BuildError.{BuildError}
 use Rattle.flat_policy.specs.declared.setup.BuildError.TheVariants.{Memory, Range}
 use Rattle.flat_policy.specs.declared.setup.Field.{Field}
