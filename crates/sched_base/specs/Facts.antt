@@ -2,6 +2,7 @@
 use Rattle.std.specs.Prelude.{ℕ, Option, ◌+◌, ◌-◌, ◌*◌, ◌/◌, ◌^◌, min}
 use Rattle.sched_base.specs.declared.buckets.Bucket.{Bucket}
 use Rattle.sched_base.specs.declared.facts.Facts.{Facts}
+use Rattle.sched_base.specs.Limits.{most_rate}
 
 -- a sum that stays at the greatest number of 32 bits
 abbrev pub sum_within_32 : ℕ → ℕ → ℕ
@@ -32,7 +33,7 @@ abbrev pub charged : ℕ → ℕ → Facts → Facts
 charged us rate facts = record facts {
   usage = sum_within_32 facts.usage us;
   pending_ran = sum_within_32 facts.pending_ran us;
-  work = sum_within_64 facts.work (us * rate / 1000);
+  work = sum_within_64 facts.work (us * rate / most_rate);
 }
 
 -- with a blocked span to be counted

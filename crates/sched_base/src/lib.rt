@@ -6,6 +6,8 @@
 pub mod buckets;
 pub mod facts;
 pub mod history;
+pub mod laws;
+pub mod limits;
 pub mod steps;
 pub mod threads;
 

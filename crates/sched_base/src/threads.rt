@@ -1,10 +1,11 @@
 //! A thread, which is moved and never copied.
 
-ghost use Rattle.std.specs.Prelude.{◌≡◌, ◌<◌, ◌≤◌, ◌^◌};
+ghost use Rattle.std.specs.Prelude.{◌≡◌, ◌<◌, ◌≤◌};
 ghost use Rattle.sched_base.specs.Facts.{fresh, charged, rested, settled};
 
 use crate::buckets::Bucket;
 use crate::facts::Facts;
+use crate::limits::{MOMENT_LIMIT, MOST_BASE, MOST_RATE};
 use std::marker::Model;
 
 /// A thread. Contracts see its facts. It has no `Drop` and no `Clone`, so code that loses or
@@ -16,12 +17,13 @@ pub struct Thread {
 impl Model for Thread {
     ghost use Rattle.std.specs.Prelude.{◌≤◌};
     ghost use Rattle.sched_base.specs.declared.facts.Facts.{Facts};
+    ghost use Rattle.sched_base.specs.Limits.{most_base};
 
     ghost Value = { Facts };
 
     ghost view = { λ thread. thread.facts };
 
-    ghost invariant = { λ thread. thread.facts.base ≤ 127 };
+    ghost invariant = { λ thread. thread.facts.base ≤ most_base };
 }
 
 impl Thread {
@@ -36,8 +38,8 @@ impl Thread {
         prefer: u8,
         now: u64,
     ) -> Thread
-        requires base { base ≤ 127 }
-        requires now { now < 2 ^ 40 }
+        requires base { base ≤ MOST_BASE }
+        requires now { now < MOMENT_LIMIT }
         ensures { result ≡ fresh name group bucket base bound prefer now }
     {
         Thread {
@@ -60,7 +62,7 @@ impl Thread {
     /// The facts of the thread, whose base is at most 127.
     pub fn facts(&self) -> Facts
         ensures facts { result ≡ self.now }
-        ensures base { result.base ≤ 127 }
+        ensures base { result.base ≤ MOST_BASE }
     {
         self.facts
     }
@@ -69,10 +71,10 @@ impl Thread {
     /// Usage and the pending run span grow by `us`, and the work by `us * rate / 1000`, rounded
     /// down. Each stays at the greatest value of its type where the sum exceeds it.
     pub fn charge(&mut self, us: u32, rate: u32)
-        requires { rate ≤ 1000 }
+        requires { rate ≤ MOST_RATE }
         ensures { self.new ≡ charged us rate self.old }
     {
-        let done = us as u64 * rate as u64 / 1000;
+        let done = us as u64 * rate as u64 / MOST_RATE as u64;
         self.facts.usage = self.facts.usage.saturating_add(us);
         self.facts.pending_ran = self.facts.pending_ran.saturating_add(us);
         self.facts.work = self.facts.work.saturating_add(done);
@@ -101,7 +103,7 @@ impl Thread {
     /// Ends the thread: what it leaves is its facts. This is the one way to let a thread go.
     pub fn into_facts(self) -> Facts
         ensures facts { result ≡ self }
-        ensures base { result.base ≤ 127 }
+        ensures base { result.base ≤ MOST_BASE }
     {
         let Thread { facts } = self;
         facts
