@@ -11,8 +11,9 @@ use Rattle.sched_base.specs.declared.Bucket.{Bucket}
 use Rattle.sched_base.specs.declared.Facts.{Facts}
 use Rattle.sched_base.specs.declared.Step.{Step}
 use Rattle.flat_policy.specs.Policy.ClusterSteps.{named_entry, offer_event, select_event}
-use Rattle.flat_policy.specs.Laws.Sound.{Sound, ThreadFits}
-use Rattle.flat_policy.specs.Policy.Machine.{MachineState, Refusal, accepted_by, effective_moment, first_refusal, fits_act, fits_step, flat_at, hand_at, hand_full, live_count, made_thread, name_used, no_room, not_blocked, not_queued, outcome_by, refusal, refusals_by, refuse, sleeper_of, state_after}
+use Rattle.flat_policy.specs.Policy.Threads.{ThreadFits, made_thread}
+use Rattle.flat_policy.specs.Laws.Sound.{Sound}
+use Rattle.flat_policy.specs.Policy.Machine.{MachineState, Refusal, accepted_by, effective_moment, first_refusal, fits_act, fits_step, flat_at, hand_at, hand_full, live_count, name_used, no_room, not_blocked, not_queued, outcome_by, refusal, refusals_by, refuse, sleeper_of, state_after}
 use Rattle.flat_policy.specs.Policy.Setup.{SetupParts, actor_count, cluster_count, group_count, home_of}
 use Rattle.flat_policy.proofs.HandMoves.{aim_goes, look_goes, power_goes, ran_goes, refresh_goes}
 use Rattle.flat_policy.proofs.Moved.{enter_goes, offer_out, pull_goes, select_out, taking_goes}
@@ -46,7 +47,7 @@ made_fits setup name group bucket base bound now h =
     }
 
 -- by what the actor does
-pub accepted_goes : (setup : SetupParts) (g : MachineState) (a now : ℕ) (act : Act) → Sound setup g → a < actor_count setup → fits_act setup act ≡ true → first_refusal (refusals_by setup g a (hand_at g a) act) ≡ None → Goes setup g (accepted_by setup g a (hand_at g a) now act).game
+pub accepted_goes : (setup : SetupParts) (g : MachineState) (a now : ℕ) (act : Act) → Sound setup g → a < actor_count setup → fits_act setup act ≡ true → first_refusal (refusals_by setup g a (hand_at g a) act) ≡ None → Goes setup g (accepted_by setup g a (hand_at g a) now act).state
 accepted_goes setup g a now (acts.Make name group bucket base bound) sound ain fits none =
     let full = no_refusal (hand_full (hand_at g a)) (name_used g.yard name ∷ no_room setup g.yard ∷ []) none in
     let used = no_refusal (name_used g.yard name) (no_room setup g.yard ∷ []) full.1 in
@@ -85,7 +86,7 @@ accepted_goes setup g a now acts.Refresh sound ain fits none = refresh_goes setu
 accepted_goes setup g a now (acts.Off c) sound ain fits none = power_goes setup g a c now false sound ain (ltb-true c (cluster_count setup) fits)
 accepted_goes setup g a now (acts.On c) sound ain fits none = power_goes setup g a c now true sound ain (ltb-true c (cluster_count setup) fits)
 
-step_by : (setup : SetupParts) (g : MachineState) (step : Step) → Sound setup g → fits_step setup step ≡ true → (o : Option Answer) → refusal setup g step ≡ o → Goes setup g (outcome_by setup g step o).game
+step_by : (setup : SetupParts) (g : MachineState) (step : Step) → Sound setup g → fits_step setup step ≡ true → (o : Option Answer) → refusal setup g step ≡ o → Goes setup g (outcome_by setup g step o).state
 step_by setup g step sound fits (Some answer) e = goes_nowhere setup g sound
 step_by setup g step sound fits None e =
     let outer = and_parts (nat_lt step.moment (2 ^ 40)) (nat_lt step.actor (actor_count setup) && fits_act setup step.act) fits in

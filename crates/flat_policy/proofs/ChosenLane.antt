@@ -9,7 +9,7 @@ use Rattle.flat_policy.specs.declared.setup.Times.{Times}
 use Rattle.flat_policy.specs.Laws.Choice.{has_member}
 use Rattle.flat_policy.specs.Laws.Picks.{ChoosesFilled}
 use Rattle.flat_policy.specs.Policy.Queue.{Flat, LaneState, Queued, has_entries, in_lane, timeshare_lanes}
-use Rattle.flat_policy.specs.Policy.Windows.{Choice, better_ui_lane, bucket_has_entries, bucket_priority, chosen, chosen_against, chosen_behind, chosen_by_deadline, chosen_under, due_before, earliest, filled_lanes, higher_lanes, may_pass, passing, some_higher, stands_higher, ui_goes_first}
+use Rattle.flat_policy.specs.Policy.Windows.{Choice, better_ui_lane, bucket_has_entries, bucket_priority, chosen, choice_against, chosen_behind, chosen_by_deadline, chosen_under, due_before, earliest_of, filled_lanes, higher_of, may_pass, passing_of, some_higher, stands_higher, ui_goes_first}
 use Rattle.flat_policy.proofs.Choice.{is_unpreceded, there_under_strict}
 use Rattle.flat_policy.proofs.Chosen.{better_ui_has, due_strict, filled_entry, filled_from_entry, has_from_member}
 use Rattle.flat_policy.proofs.Greatest.{filter_none}
@@ -20,20 +20,20 @@ against_behind : (s : Flat) (b : Bool) (e : LaneState) → has_entries s e.lane 
 against_behind s true e h = h
 against_behind s false e h = h
 
-against_filled : (ts : List Times) (s : Flat) (e : LaneState) → has_entries s e.lane ≡ true → (o : Option LaneState) → passing ts s e ≡ o → has_entries s (chosen_against o s e).lane ≡ true
+against_filled : (ts : List Times) (s : Flat) (e : LaneState) → has_entries s e.lane ≡ true → (o : Option LaneState) → passing_of ts (filled_lanes s) e ≡ o → has_entries s (choice_against o (filled_lanes s) e).lane ≡ true
 against_filled ts s e h (Some l) p =
-    let among = (is_unpreceded (λ (x y : LaneState). stands_higher x.lane y.lane) (filter (may_pass ts) (higher_lanes s e)) l p).member in
-    let higher = (member_of_filter (may_pass ts) (higher_lanes s e) l among).0 in
+    let among = (is_unpreceded (λ (x y : LaneState). stands_higher x.lane y.lane) (filter (may_pass ts) (higher_of (filled_lanes s) e)) l p).member in
+    let higher = (member_of_filter (may_pass ts) (higher_of (filled_lanes s) e) l among).0 in
     filled_entry s l (member_of_filter (λ (m : LaneState). nat_lt (index m.lane.bucket) (index e.lane.bucket)) (filled_lanes s) l higher).0
-against_filled ts s e h None p = against_behind s (some_higher (higher_lanes s e)) e h
+against_filled ts s e h None p = against_behind s (some_higher (higher_of (filled_lanes s) e)) e h
 
 -- the choice by deadlines, by the earliest lane
-by_deadline_filled : (ts : List Times) (s : Flat) (o : Option LaneState) → earliest s ≡ o → (c : Choice) → option_map (λ (e : LaneState). chosen_against (passing ts s e) s e) o ≡ Some c → has_entries s c.lane ≡ true
+by_deadline_filled : (ts : List Times) (s : Flat) (o : Option LaneState) → earliest_of (filled_lanes s) ≡ o → (c : Choice) → option_map (λ (e : LaneState). choice_against (passing_of ts (filled_lanes s) e) (filled_lanes s) e) o ≡ Some c → has_entries s c.lane ≡ true
 by_deadline_filled ts s None e c h = absurd (false≢true (ap is_some h))
 by_deadline_filled ts s (Some l) e c h =
-    let same : chosen_against (passing ts s l) s l ≡ c = grind (arith, h) in
+    let same : choice_against (passing_of ts (filled_lanes s) l) (filled_lanes s) l ≡ c = grind (arith, h) in
     subst (λ (d : Choice). has_entries s d.lane ≡ true) same
-    (against_filled ts s l (filled_entry s l (is_unpreceded due_before (filled_lanes s) l e).member) (passing ts s l) refl)
+    (against_filled ts s l (filled_entry s l (is_unpreceded due_before (filled_lanes s) l e).member) (passing_of ts (filled_lanes s) l) refl)
 
 by_deadline_there : (o : Option LaneState) (f : LaneState → Choice) → is_some (option_map f o) ≡ is_some o
 by_deadline_there None f = refl
@@ -71,9 +71,9 @@ first_by_deadline : (ts : List Times) (s : Flat) → map (λ (l : LaneState). l.
 first_by_deadline ts s ten h =
     let is : chosen ts s ≡ chosen_by_deadline ts s = ap (λ b. chosen_under (cond b (Some (better_ui_lane s)) None) ts s) h in
     record {
-      there = ap is_some is ∙ (by_deadline_there (earliest s) (λ (e : LaneState). chosen_against (passing ts s e) s e)
+      there = ap is_some is ∙ (by_deadline_there (earliest_of (filled_lanes s)) (λ (e : LaneState). choice_against (passing_of ts (filled_lanes s) e) (filled_lanes s) e)
           ∙ (there_under_strict due_before (filled_lanes s) (due_strict (filled_lanes s)) ∙ filled_is s ten h s.entries refl));
-      filled = λ c e. by_deadline_filled ts s (earliest s) refl c (sym is ∙ e);
+      filled = λ c e. by_deadline_filled ts s (earliest_of (filled_lanes s)) refl c (sym is ∙ e);
     }
 
 pub chooses_filled : (ts : List Times) (s : Flat) → map (λ (l : LaneState). l.lane) s.lanes ≡ timeshare_lanes → ChoosesFilled ts s

@@ -6,7 +6,8 @@ use Rattle.sched_base.specs.Facts.{charged}
 use Rattle.sched_base.specs.declared.Answer.{Answer}
 use Rattle.sched_base.specs.declared.Facts.{Facts}
 use Rattle.flat_policy.specs.Policy.ClusterSteps.{Event, look_event, power_event, refresh_event, touched}
-use Rattle.flat_policy.specs.Laws.Sound.{FlatFits, HandFits, Sound, ThreadFits}
+use Rattle.flat_policy.specs.Policy.Threads.{ThreadFits}
+use Rattle.flat_policy.specs.Laws.Sound.{FlatFits, HandFits, Sound}
 use Rattle.flat_policy.specs.Policy.Machine.{MachineState, Hand, aim_outcome, flat_at, hand_at, kept_hand, leaving_hand, look_outcome, looked_hand, ran_outcome, look_told, with_hand}
 use Rattle.flat_policy.specs.Policy.Queue.{Flat, Queued}
 use Rattle.flat_policy.specs.Policy.Refresh.{refreshed, repriced}
@@ -26,14 +27,14 @@ looked_fits : (setup : SetupParts) (h : Hand) (c : ℕ) (answer : Answer) (now :
 looked_fits setup h c answer now fit = record { thread = fit.thread; looks = length-set h.looks c (Some (look_told answer)) ∙ fit.looks }
 
 -- a step at a cluster that leaves its names and the hand
-pub leaving_goes : (setup : SetupParts) (g : MachineState) (a c now : ℕ) (e : Event) → Sound setup g → a < actor_count setup → c < cluster_count setup → FlatFits setup e.flat → ((p : ℕ → Bool) → queued_by p e.flat ≡ queued_by p (flat_at g c)) → Goes setup g (leaving_hand g a (hand_at g a) c now e).game
+pub leaving_goes : (setup : SetupParts) (g : MachineState) (a c now : ℕ) (e : Event) → Sound setup g → a < actor_count setup → c < cluster_count setup → FlatFits setup e.flat → ((p : ℕ → Bool) → queued_by p e.flat ≡ queued_by p (flat_at g c)) → Goes setup g (leaving_hand g a (hand_at g a) c now e).state
 leaving_goes setup g a c now e sound ain cin fit same =
     goes_flat setup g a c (kept_hand (hand_at g a) now) e.flat sound ain cin (kept_fits setup (hand_at g a) now (sound.hands a ain)) fit (λ p. omega (arith, same p))
 
 touched_fits : (setup : SetupParts) (s : Flat) (now : ℕ) → FlatFits setup s → FlatFits setup (touched now s)
 touched_fits setup s now fit = flat_fits setup (touched now s) (flat_parts setup s fit) fit.threads
 
-pub power_goes : (setup : SetupParts) (g : MachineState) (a c now : ℕ) (on : Bool) → Sound setup g → a < actor_count setup → c < cluster_count setup → Goes setup g (leaving_hand g a (hand_at g a) c now (power_event on now (flat_at g c))).game
+pub power_goes : (setup : SetupParts) (g : MachineState) (a c now : ℕ) (on : Bool) → Sound setup g → a < actor_count setup → c < cluster_count setup → Goes setup g (leaving_hand g a (hand_at g a) c now (power_event on now (flat_at g c))).state
 power_goes setup g a c now on sound ain cin =
     leaving_goes setup g a c now (power_event on now (flat_at g c)) sound ain cin
     (flat_fits setup (record (flat_at g c) { on = on; last = now }) (flat_parts setup (flat_at g c) (sound.flats c cin)) (sound.flats c cin).threads)
@@ -60,13 +61,13 @@ refreshed_count groups s now p =
     ap (count_by (λ (e : Queued). p e.facts.name)) (refreshed_entries groups s now)
     ∙ sum_by_map (λ (e : Queued). cond (p e.facts.name) 1 0) (repriced s now) s.entries (λ e. ap (λ n. cond (p n) 1 0) (repriced_name s now e))
 
-pub refresh_goes : (setup : SetupParts) (g : MachineState) (a c now : ℕ) → Sound setup g → a < actor_count setup → c < cluster_count setup → Goes setup g (leaving_hand g a (hand_at g a) c now (refresh_event setup now (flat_at g c))).game
+pub refresh_goes : (setup : SetupParts) (g : MachineState) (a c now : ℕ) → Sound setup g → a < actor_count setup → c < cluster_count setup → Goes setup g (leaving_hand g a (hand_at g a) c now (refresh_event setup now (flat_at g c))).state
 refresh_goes setup g a c now sound ain cin =
     leaving_goes setup g a c now (refresh_event setup now (flat_at g c)) sound ain cin
     (refreshed_flat setup (flat_at g c) now (sound.flats c cin))
     (refreshed_count (group_count setup) (flat_at g c) now)
 
-pub look_goes : (setup : SetupParts) (g : MachineState) (a c now : ℕ) → Sound setup g → a < actor_count setup → c < cluster_count setup → (o : Option Facts) → Goes setup g (look_outcome setup g a (hand_at g a) c now o).game
+pub look_goes : (setup : SetupParts) (g : MachineState) (a c now : ℕ) → Sound setup g → a < actor_count setup → c < cluster_count setup → (o : Option Facts) → Goes setup g (look_outcome setup g a (hand_at g a) c now o).state
 look_goes setup g a c now sound ain cin None = goes_nowhere setup g sound
 look_goes setup g a c now sound ain cin (Some t) =
     let e : Event = look_event setup c t.bucket now (flat_at g c) in
@@ -80,7 +81,7 @@ hand_goes : (setup : SetupParts) (g : MachineState) (a : ℕ) (h : Hand) → Sou
 hand_goes setup g a h sound ain fit same =
     goes_yard setup g a h g.yard [] sound ain fit sound.yard (sym (append-nil g.yard.made)) (λ once p. omega (arith, same p)) (inl refl) (λ l. l)
 
-pub aim_goes : (setup : SetupParts) (g : MachineState) (a now : ℕ) → Sound setup g → a < actor_count setup → (o : Option Facts) → Goes setup g (aim_outcome setup g a (hand_at g a) now o).game
+pub aim_goes : (setup : SetupParts) (g : MachineState) (a now : ℕ) → Sound setup g → a < actor_count setup → (o : Option Facts) → Goes setup g (aim_outcome setup g a (hand_at g a) now o).state
 aim_goes setup g a now sound ain None = goes_nowhere setup g sound
 aim_goes setup g a now sound ain (Some t) =
     hand_goes setup g a (kept_hand (hand_at g a) now) sound ain (kept_fits setup (hand_at g a) now (sound.hands a ain)) (λ p. refl)
@@ -89,7 +90,7 @@ aim_goes setup g a now sound ain (Some t) =
 charged_fits : (setup : SetupParts) (us rate : ℕ) (t : Facts) → ThreadFits setup t → ThreadFits setup (charged us rate t)
 charged_fits setup us rate t fit = record { group = fit.group; base = fit.base; bound = fit.bound }
 
-pub ran_goes : (setup : SetupParts) (g : MachineState) (a us now : ℕ) → Sound setup g → a < actor_count setup → (o : Option Facts) → (hand_at g a).thread ≡ o → Goes setup g (ran_outcome setup g a (hand_at g a) us now o).game
+pub ran_goes : (setup : SetupParts) (g : MachineState) (a us now : ℕ) → Sound setup g → a < actor_count setup → (o : Option Facts) → (hand_at g a).thread ≡ o → Goes setup g (ran_outcome setup g a (hand_at g a) us now o).state
 ran_goes setup g a us now sound ain None e = goes_nowhere setup g sound
 ran_goes setup g a us now sound ain (Some t) e =
     let u : Facts = charged us (rate_of setup (home_of setup a)) t in

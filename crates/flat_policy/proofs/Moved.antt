@@ -7,7 +7,8 @@ use Rattle.std.proofs.lemmas.Option.{same_Some, none-some}
 use Rattle.sched_base.specs.declared.Answer.TheVariants as answers
 use Rattle.sched_base.specs.declared.Facts.{Facts}
 use Rattle.flat_policy.specs.Policy.ClusterSteps.{Event, enter_event, facts_of, flat_after_offer, got, named_entry, offer_event, pull_event, select_event, touched}
-use Rattle.flat_policy.specs.Laws.Sound.{FlatFits, HandFits, Sound, ThreadFits}
+use Rattle.flat_policy.specs.Policy.Threads.{ThreadFits}
+use Rattle.flat_policy.specs.Laws.Sound.{FlatFits, HandFits, Sound}
 use Rattle.flat_policy.specs.Policy.Machine.{MachineState, Hand, empty_hand, enter_outcome, flat_at, hand_at, pull_outcome, taking, taking_hand}
 use Rattle.flat_policy.specs.Policy.Moves.{entered, new_entry, pick, removed, selected, settled_thread}
 use Rattle.flat_policy.specs.Policy.Offer.{mask_between, offered_between}
@@ -81,14 +82,14 @@ taking_count : (setup : SetupParts) (h : Hand) (o : Option Facts) (now : ℕ) �
 taking_count setup h None now e p = ap (λ t. cond (passes p t) 1 0) e
 taking_count setup h (Some t) now e p = refl
 
-pub taking_goes : (setup : SetupParts) (g : MachineState) (a c now : ℕ) (e : Event) → Sound setup g → a < actor_count setup → c < cluster_count setup → (hand_at g a).thread ≡ None → MovesOut setup (flat_at g c) e.flat e.thread → Goes setup g (taking setup g a (hand_at g a) c now e).game
+pub taking_goes : (setup : SetupParts) (g : MachineState) (a c now : ℕ) (e : Event) → Sound setup g → a < actor_count setup → c < cluster_count setup → (hand_at g a).thread ≡ None → MovesOut setup (flat_at g c) e.flat e.thread → Goes setup g (taking setup g a (hand_at g a) c now e).state
 taking_goes setup g a c now e sound ain cin empty out =
     goes_flat setup g a c (taking_hand setup (hand_at g a) e.thread now) e.flat sound ain cin
     (taking_fits setup (hand_at g a) e.thread now (sound.hands a ain) out.thread)
     out.flat
     (λ p. omega (arith, taking_count setup (hand_at g a) e.thread now empty p, out.count p, ap {B = ℕ} (λ t. cond (passes p t) 1 0) empty))
 
-pub pull_goes : (setup : SetupParts) (g : MachineState) (a c now name : ℕ) → Sound setup g → a < actor_count setup → c < cluster_count setup → (hand_at g a).thread ≡ None → (o : Option Queued) → named_entry (flat_at g c) name ≡ o → Goes setup g (pull_outcome setup g a (hand_at g a) c now o).game
+pub pull_goes : (setup : SetupParts) (g : MachineState) (a c now name : ℕ) → Sound setup g → a < actor_count setup → c < cluster_count setup → (hand_at g a).thread ≡ None → (o : Option Queued) → named_entry (flat_at g c) name ≡ o → Goes setup g (pull_outcome setup g a (hand_at g a) c now o).state
 pull_goes setup g a c now name sound ain cin empty None e = goes_nowhere setup g sound
 pull_goes setup g a c now name sound ain cin empty (Some q) e =
     taking_goes setup g a c now (pull_event q now (flat_at g c)) sound ain cin empty
@@ -110,7 +111,7 @@ enter_flat setup s c t head now fit tf =
     (subst (EachQueued (λ (e : Queued). ThreadFits setup e.facts)) (sym (entered_entries (cluster_times setup c) t head now s))
     (each_push (λ (e : Queued). ThreadFits setup e.facts) s.entries (new_entry s (settled_thread now t) head) fit.threads (settled_fits setup now t tf)))
 
-pub enter_goes : (setup : SetupParts) (g : MachineState) (a c : ℕ) (head : Bool) (now : ℕ) → Sound setup g → a < actor_count setup → c < cluster_count setup → (o : Option Facts) → (hand_at g a).thread ≡ o → Goes setup g (enter_outcome setup g a c head now o).game
+pub enter_goes : (setup : SetupParts) (g : MachineState) (a c : ℕ) (head : Bool) (now : ℕ) → Sound setup g → a < actor_count setup → c < cluster_count setup → (o : Option Facts) → (hand_at g a).thread ≡ o → Goes setup g (enter_outcome setup g a c head now o).state
 enter_goes setup g a c head now sound ain cin None e = goes_nowhere setup g sound
 enter_goes setup g a c head now sound ain cin (Some t) e =
     goes_flat setup g a c (empty_hand setup now) (enter_event setup c t head now (flat_at g c)).flat sound ain cin

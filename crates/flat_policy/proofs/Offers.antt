@@ -4,7 +4,7 @@ use Rattle.std.specs.List.{list_any}
 use Rattle.std.proofs.lemmas.Bool.{and_parts, cases_Bool, cond-false, cond-true, not-true}
 use Rattle.sched_base.specs.Bucket.{index}
 use Rattle.flat_policy.specs.Laws.Choice.{OrdersMembers, has_member}
-use Rattle.flat_policy.specs.Laws.Offers.{Offers, OffersInOrder}
+use Rattle.flat_policy.specs.Laws.Offers.{OffersRightly, OffersInOrder}
 use Rattle.flat_policy.specs.Policy.Offer.{first_there, foreign_before, is_masked, is_unbound, mask_between, masked_before, may_take, offered, offered_foreign, offered_masked, prefers}
 use Rattle.flat_policy.specs.Policy.Precedence.{precedes, precedes_in_lane}
 use Rattle.flat_policy.specs.Policy.Queue.{Flat, Queued}
@@ -103,7 +103,7 @@ offered_there groups to migrate mask s w =
     ∙ (ap₂ (λ a b. a || b) (where_is migrate (offered_foreign to s) ∙ ap (λ a. migrate && a) foreign) masked
     ∙ any_of_both migrate (λ (e : Queued). prefers to e.facts) (λ (e : Queued). is_masked mask e.facts) s.entries)
 
-pub offers : (groups : ℕ) (setup : SetupParts) (from to : ℕ) (s : Flat) → WellFormed groups s → Offers setup from to s
+pub offers : (groups : ℕ) (setup : SetupParts) (from to : ℕ) (s : Flat) → WellFormed groups s → OffersRightly setup from to s
 offers groups setup from to s w = record {
   stands = λ e h. (offered_stands to (migrates setup from to) (mask_between setup from to s.on) s e h).0;
   may = λ e h. (offered_stands to (migrates setup from to) (mask_between setup from to s.on) s e h).1;

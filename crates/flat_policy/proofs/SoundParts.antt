@@ -5,7 +5,8 @@ use Rattle.std.proofs.lemmas.Bool.{cases_Bool, cases_eq, cond-false, cond-true, 
 use Rattle.std.proofs.lemmas.List.{get_or-set_other, get_or-set_same, length-replicate, length-set}
 use Rattle.std.proofs.lemmas.List.Sums.{sum_by-cons}
 use Rattle.std.proofs.lemmas.Option.{none-some}
-use Rattle.flat_policy.specs.Laws.Sound.{FlatFits, HandFits, Sound, ThreadFits, YardFits}
+use Rattle.flat_policy.specs.Policy.Threads.{ThreadFits}
+use Rattle.flat_policy.specs.Laws.Sound.{FlatFits, HandFits, Sound, YardFits}
 use Rattle.flat_policy.specs.Policy.Machine.{MachineState, Hand, Yard, empty_hand, flat_at, hand_at, no_hand, with_flat, with_hand, with_yard}
 use Rattle.flat_policy.specs.Policy.Queue.{Flat, Queued, empty_flat}
 use Rattle.flat_policy.specs.Policy.Setup.{ClusterParts, SetupParts, actor_count, cluster_count, group_count, home_among, home_of}

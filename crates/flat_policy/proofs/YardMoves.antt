@@ -8,7 +8,8 @@ use Rattle.std.proofs.lemmas.List.Sums.{sum_by-cons, sum_by_push}
 use Rattle.std.proofs.lemmas.Option.{same_Some}
 use Rattle.sched_base.specs.Facts.{rested}
 use Rattle.sched_base.specs.declared.Facts.{Facts}
-use Rattle.flat_policy.specs.Laws.Sound.{HandFits, Sound, ThreadFits}
+use Rattle.flat_policy.specs.Policy.Threads.{ThreadFits}
+use Rattle.flat_policy.specs.Laws.Sound.{HandFits, Sound}
 use Rattle.flat_policy.specs.Policy.Machine.{MachineState, Sleeper, blocked_outcome, empty_hand, end_outcome, filled_hand, hand_at, kept_hand, make_outcome, sleep_outcome, sleeper_of, sleepers_without, wake_outcome}
 use Rattle.flat_policy.specs.Policy.Setup.{SetupParts, actor_count, cluster_count}
 use Rattle.flat_policy.proofs.Members.{contains_cases, contains_none, find_finds, member_of_filter}
@@ -69,7 +70,7 @@ one_leaves f q (x ∷ xs) w c h few =
           ])
     ]
 
-pub make_goes : (setup : SetupParts) (g : MachineState) (a now : ℕ) (t : Facts) → Sound setup g → a < actor_count setup → (hand_at g a).thread ≡ None → ThreadFits setup t → list_any (λ n. n == t.name) g.yard.made ≡ false → length g.yard.made - length g.yard.ended < setup.threads → Goes setup g (make_outcome setup g a now t).game
+pub make_goes : (setup : SetupParts) (g : MachineState) (a now : ℕ) (t : Facts) → Sound setup g → a < actor_count setup → (hand_at g a).thread ≡ None → ThreadFits setup t → list_any (λ n. n == t.name) g.yard.made ≡ false → length g.yard.made - length g.yard.ended < setup.threads → Goes setup g (make_outcome setup g a now t).state
 make_goes setup g a now t sound ain empty fit fresh room =
     goes_yard setup g a (filled_hand setup t now) (record g.yard { made = g.yard.made ++ t.name ∷ []; last = now }) (t.name ∷ []) sound ain
     (filled_fits setup t now fit) sound.yard refl
@@ -77,7 +78,7 @@ make_goes setup g a now t sound ain empty fit fresh room =
     (inr (t.name, refl, fresh))
     (λ h. omega (arith, room, length_push g.yard.made t.name))
 
-pub sleep_goes : (setup : SetupParts) (g : MachineState) (a now : ℕ) → Sound setup g → a < actor_count setup → (o : Option Facts) → (hand_at g a).thread ≡ o → Goes setup g (sleep_outcome setup g a now o).game
+pub sleep_goes : (setup : SetupParts) (g : MachineState) (a now : ℕ) → Sound setup g → a < actor_count setup → (o : Option Facts) → (hand_at g a).thread ≡ o → Goes setup g (sleep_outcome setup g a now o).state
 sleep_goes setup g a now sound ain None e = goes_nowhere setup g sound
 sleep_goes setup g a now sound ain (Some t) e =
     let w : Sleeper = record { facts = t; since = now } in
@@ -98,7 +99,7 @@ rested_fits setup span t fit = record { group = fit.group; base = fit.base; boun
 blocked_once : (g : MachineState) (name : ℕ) → placed (λ n. n == name) g ≤ 1 → count_by (λ (w : Sleeper). w.facts.name == name) g.yard.blocked ≤ 1
 blocked_once g name h = omega (arith, h)
 
-pub wake_goes : (setup : SetupParts) (g : MachineState) (a now name : ℕ) → Sound setup g → a < actor_count setup → (hand_at g a).thread ≡ None → (o : Option Sleeper) → sleeper_of g.yard name ≡ o → Goes setup g (wake_outcome setup g a now o).game
+pub wake_goes : (setup : SetupParts) (g : MachineState) (a now name : ℕ) → Sound setup g → a < actor_count setup → (hand_at g a).thread ≡ None → (o : Option Sleeper) → sleeper_of g.yard name ≡ o → Goes setup g (wake_outcome setup g a now o).state
 wake_goes setup g a now name sound ain empty None e = goes_nowhere setup g sound
 wake_goes setup g a now name sound ain empty (Some w) e =
     let found = find_finds (λ (v : Sleeper). v.facts.name == name) g.yard.blocked w e in
@@ -115,7 +116,7 @@ wake_goes setup g a now name sound ain empty (Some w) e =
     ))
     (inl refl) (λ h. h)
 
-pub end_goes : (setup : SetupParts) (g : MachineState) (a now : ℕ) → Sound setup g → a < actor_count setup → (o : Option Facts) → (hand_at g a).thread ≡ o → Goes setup g (end_outcome setup g a now o).game
+pub end_goes : (setup : SetupParts) (g : MachineState) (a now : ℕ) → Sound setup g → a < actor_count setup → (o : Option Facts) → (hand_at g a).thread ≡ o → Goes setup g (end_outcome setup g a now o).state
 end_goes setup g a now sound ain None e = goes_nowhere setup g sound
 end_goes setup g a now sound ain (Some t) e =
     goes_yard setup g a (empty_hand setup now) (record g.yard { ended = g.yard.ended ++ t.name ∷ []; last = now }) [] sound ain
@@ -123,7 +124,7 @@ end_goes setup g a now sound ain (Some t) e =
     (λ once p. omega (arith, ap {B = ℕ} (λ u. cond (passes p u) 1 0) e, sum_by_push (λ n. cond (p n) 1 0) g.yard.ended t.name))
     (inl refl) (λ h. omega (arith, h, length_push g.yard.ended t.name))
 
-pub blocked_goes : (setup : SetupParts) (g : MachineState) (a now : ℕ) → Sound setup g → a < actor_count setup → Goes setup g (blocked_outcome g a (hand_at g a) now).game
+pub blocked_goes : (setup : SetupParts) (g : MachineState) (a now : ℕ) → Sound setup g → a < actor_count setup → Goes setup g (blocked_outcome g a (hand_at g a) now).state
 blocked_goes setup g a now sound ain =
     goes_yard setup g a (kept_hand (hand_at g a) now) (record g.yard { last = now }) [] sound ain
     (record { thread = (sound.hands a ain).thread; looks = (sound.hands a ain).looks })

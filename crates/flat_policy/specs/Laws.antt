@@ -10,3 +10,6 @@ pub mod Counts
 pub mod Orders
 pub mod Units
 pub mod Windows
+pub mod Refreshing
+pub mod Places
+pub mod Loads

@@ -3,6 +3,7 @@ pub mod Setup
 pub mod Ranges
 pub mod BuiltSetups
 pub mod BuildFaults
+pub mod Threads
 pub mod Usage
 pub mod Queue
 pub mod WellFormed

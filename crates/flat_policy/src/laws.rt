@@ -1,13 +1,17 @@
 //! Laws that show that the definitions say what is meant. Each is the contract of a function that does nothing.
 
 ghost use Rattle.flat_policy.specs.Laws.Choice.{ChoiceIsOne, ChoiceGoesByMembers};
-ghost use Rattle.flat_policy.specs.Laws.Kept.{EmptyIsWellFormed, StepsKeepWellFormed};
-ghost use Rattle.flat_policy.specs.Laws.Aims.{AimMayBeEntered};
-ghost use Rattle.flat_policy.specs.Laws.Offers.{OffersWhatMayBeTaken, OffersAreOne};
+ghost use Rattle.flat_policy.specs.Laws.Kept.{EmptyIsWellFormed, HistoriesKeepWellFormed, StepsKeepWellFormed, StepsRiseByFew};
+ghost use Rattle.flat_policy.specs.Laws.Aims.{AimMayBeEntered, LightestGainsMost};
+ghost use Rattle.flat_policy.specs.Laws.Offers.{MaskedOffersByLane, OffersAreOne, OffersWhatMayBeTaken};
 ghost use Rattle.flat_policy.specs.Laws.Orders.{LanesAreOrdered, TargetsAreOrdered};
-ghost use Rattle.flat_policy.specs.Laws.Units.{PickStandsInLane, FirstStandsInClutch, FirstOfBoundLane};
+ghost use Rattle.flat_policy.specs.Laws.Units.{FilledLaneHasFirstClutch, FirstHasGreatestPriority, FirstOfBoundLane, FirstStandsInClutch, LanePrioritiesAreOfUnits, LanePriorityByEntries, PickStandsInLane};
 ghost use Rattle.flat_policy.specs.Laws.Picks.{PrecedesOrders, GoesBeforeOrders, ChoosesAFilledLane, PickIsOne};
-ghost use Rattle.flat_policy.specs.Laws.Sound.{EmptyIsSound, StepsKeepSound};
+ghost use Rattle.flat_policy.specs.Laws.Sound.{EmptyIsSound, FittingPrefersAmong, StepsKeepSound};
+ghost use Rattle.flat_policy.specs.Laws.Loads.{LoadIsNotRefused, LoadSleepsOne};
+ghost use Rattle.flat_policy.specs.Laws.Places.{LiveIsMadeNotEnded, PlaceIsTheOne, PrefixesAreHistories, TakersMayTake, WholeRunsKeepPlaces};
+ghost use Rattle.flat_policy.specs.Laws.Refreshing.{RefreshesByBucket};
+ghost use Rattle.flat_policy.specs.Laws.Windows.{SetupsHaveQuanta};
 ghost use Rattle.flat_policy.specs.Laws.Counts.{StepsKeepCounts, RunsKeepCounts, RunsStaySound, RunsStayWithin};
 ghost use Rattle.flat_policy.specs.Laws.Steps.{ExpiresOnce, RefusalsChangeNothing};
 
@@ -136,4 +140,94 @@ pub fn first_stands_in_clutch()
 /// The first of a bound lane goes by entry alone.
 pub fn first_of_bound_lane()
     ensures { FirstOfBoundLane }
+{}
+
+/// Every history of a cluster leaves its queue well-formed.
+pub fn histories_keep_well_formed()
+    ensures { HistoriesKeepWellFormed }
+{}
+
+/// How far each step at a cluster raises the next arrival and the next turn.
+pub fn steps_rise_by_few()
+    ensures { StepsRiseByFew }
+{}
+
+/// An aim at a lighter cluster is at the one of the greatest difference.
+pub fn lightest_gains_most()
+    ensures { LightestGainsMost }
+{}
+
+/// What is offered by the mask is the first of the lowest unbound lane in the mask that has entries.
+pub fn masked_offers_by_lane()
+    ensures { MaskedOffersByLane }
+{}
+
+/// An unbound lane with entries has a first clutch bucket.
+pub fn filled_lane_has_first_clutch()
+    ensures { FilledLaneHasFirstClutch }
+{}
+
+/// The entry that goes first among some has their greatest priority.
+pub fn first_has_greatest_priority()
+    ensures { FirstHasGreatestPriority }
+{}
+
+/// The priority of a lane is that of its bound unit, or of its first clutch bucket.
+pub fn lane_priorities_are_of_units()
+    ensures { LanePrioritiesAreOfUnits }
+{}
+
+/// The priority of a lane is the greatest of its entries' priorities with the scores of their units.
+pub fn lane_priority_by_entries()
+    ensures { LanePriorityByEntries }
+{}
+
+/// A refresh goes by buckets, and the clutch buckets of UI take no turn.
+pub fn refreshes_by_bucket()
+    ensures { RefreshesByBucket }
+{}
+
+/// A thread that fits a built setup prefers one of its clusters.
+pub fn fitting_prefers_among()
+    ensures { FittingPrefersAmong }
+{}
+
+/// No cluster of a built setup has a quantum of 0.
+pub fn setups_have_quanta()
+    ensures { SetupsHaveQuanta }
+{}
+
+/// The place that is told of a name is the one where it stands.
+pub fn place_is_the_one()
+    ensures { PlaceIsTheOne }
+{}
+
+/// Each prefix of a history of the machine is one.
+pub fn prefixes_are_histories()
+    ensures { PrefixesAreHistories }
+{}
+
+/// The threads that live are those made and not ended.
+pub fn live_is_made_not_ended()
+    ensures { LiveIsMadeNotEnded }
+{}
+
+/// A thread that an offer hands out may be taken along its edge, and a thread that enters may enter.
+pub fn takers_may_take()
+    ensures { TakersMayTake }
+{}
+
+/// After each prefix of a whole run every name that was made stands in exactly one place.
+pub fn whole_runs_keep_places()
+    ensures { WholeRunsKeepPlaces }
+{}
+
+/// No step of the load is refused.
+pub fn load_is_not_refused()
+    ensures { LoadIsNotRefused }
+{}
+
+/// At most one thread of the load sleeps.
+pub fn load_sleeps_one()
+    ensures { LoadSleepsOne }
 {}

@@ -1,5 +1,6 @@
 -- Laws of whole runs: each name made stands in one place, states stay sound, and no more threads live than the setup allows.
 use Rattle.std.specs.Prelude.{IsTrue, List, length, sum_by, ℕ, ◌<◌, ◌≡◌, ◌≤◌}
+use Rattle.sched_base.specs.Limits.{most_threads}
 use Rattle.sched_base.specs.declared.Entry.{Entry}
 use Rattle.sched_base.specs.declared.Step.{Step}
 use Rattle.flat_policy.specs.Laws.Sound.{Sound}
@@ -29,7 +30,7 @@ RunsStaySound = (setup : SetupParts) (history : List Entry) (end : MachineState)
 pub record StaysWithin (setup : SetupParts) (g : MachineState) : Type 0 where
   pub live : live_count g.yard ≤ setup.threads
   pub queued : sum_by (λ (s : Flat). length s.entries) g.flats ≤ live_count g.yard
-  pub formed : setup.threads ≤ 4096 → (c : ℕ) → c < cluster_count setup → WellFormed (group_count setup) (flat_at g c)
+  pub formed : setup.threads ≤ most_threads → (c : ℕ) → c < cluster_count setup → WellFormed (group_count setup) (flat_at g c)
 
 -- after every run it is so
 abbrev pub RunsStayWithin : Type 0

@@ -16,7 +16,7 @@ ExpiresOnce = (ts : List Times) (s : Flat) (now : ℕ) → expired ts (expired t
 pub record IsRefused (setup : SetupParts) (g : MachineState) (step : Step) (a : Answer) : Type 0 where
   pub answer : (reply setup g step).answer ≡ a
   pub thread : (reply setup g step).thread ≡ None
-  pub game : state_after setup g step ≡ g
+  pub state : state_after setup g step ≡ g
 
 -- each refusal is so
 abbrev pub RefusalsChangeNothing : Type 0

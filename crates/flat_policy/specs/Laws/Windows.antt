@@ -1,7 +1,7 @@
 -- The two laws on windows, as statements over every run of a cluster: how long a warp lasts, and how long a starvation window.
 use Rattle.std.specs.List.{list_any}
 use Rattle.std.specs.Option.{option_map_or}
-use Rattle.std.specs.Prelude.{Bool, IsTrue, List, None, Option, Some, [], false, find, if◌then◌else◌, true, ℕ, ⊤, ◌+◌, ◌<◌, ◌∷◌, ◌≤◌}
+use Rattle.std.specs.Prelude.{Bool, IsTrue, List, None, Option, Some, [], false, find, if◌then◌else◌, true, ℕ, ⊤, ◌+◌, ◌<◌, ◌∷◌, ◌≡◌, ◌≤◌}
 use Rattle.sched_base.specs.declared.Act.{Act}
 use Rattle.sched_base.specs.declared.Bucket.{Bucket}
 use Rattle.sched_base.specs.declared.Facts.{Facts}
@@ -9,19 +9,25 @@ use Rattle.bucket_tables.specs.declared.Lane.{Lane}
 use Rattle.flat_policy.specs.declared.journal.Line.{Line}
 use Rattle.flat_policy.specs.declared.lanes.Kind.{Kind}
 use Rattle.flat_policy.specs.declared.lanes.Kind.TheVariants.{Natural, Pass, Starve}
+use Rattle.flat_policy.specs.declared.lanes.Starved.TheVariants.{No}
 use Rattle.flat_policy.specs.declared.setup.Times.{Times}
+use Rattle.flat_policy.specs.Policy.BuiltSetups.{IsSetup}
 use Rattle.flat_policy.specs.Runs.Histories.{CRun, act_of, flat_after, moment_of}
 use Rattle.flat_policy.specs.Policy.Queue.{Flat, LaneState, empty_flat, has_entries, lane_of, same_lane, timeshare_lanes}
-use Rattle.flat_policy.specs.Policy.Setup.{SetupParts, cluster_times, group_count, times_for}
+use Rattle.flat_policy.specs.Policy.Setup.{SetupParts, cluster_count, cluster_times, group_count, times_for}
 use Rattle.flat_policy.specs.Policy.Windows.{Choice, chosen, expired, window_over}
 use Rattle.sched_base.specs.declared.Act.TheVariants as acts
+
+-- how a policy lets windows expire: the queue at a moment, before a choice
+abbrev pub Expiring : Type 0
+Expiring = List Times → Flat → ℕ → Flat
 
 -- what a line of a cluster is to the windows
 pub data WindowEvent : Type 0 where
   -- a select of the cluster while it is on, at a moment
   select_at : ℕ → WindowEvent
-  -- a thread enters a lane that was empty
-  lane_fills : Lane → WindowEvent
+  -- a thread enters a lane that was empty, at a moment
+  lane_fills : ℕ → Lane → WindowEvent
   -- anything else
   no_event : WindowEvent
 
@@ -29,30 +35,21 @@ abbrev pub event_if_on : Bool → ℕ → WindowEvent
 event_if_on true now = select_at now
 event_if_on false now = no_event
 
-abbrev pub event_if_empty : Bool → Lane → WindowEvent
-event_if_empty true at = no_event
-event_if_empty false at = lane_fills at
+abbrev pub event_if_empty : Bool → ℕ → Lane → WindowEvent
+event_if_empty true now at = no_event
+event_if_empty false now at = lane_fills now at
 
-abbrev pub event_of_entering : Flat → Option Facts → WindowEvent
-event_of_entering s None = no_event
-event_of_entering s (Some t) = event_if_empty (has_entries s (lane_of t)) (lane_of t)
+abbrev pub event_of_entering : Flat → ℕ → Option Facts → WindowEvent
+event_of_entering s now None = no_event
+event_of_entering s now (Some t) = event_if_empty (has_entries s (lane_of t)) now (lane_of t)
 
-abbrev pub window_event : Flat → Line → Act → WindowEvent
-window_event s l (acts.Make name group bucket base bound) = no_event
-window_event s l (acts.Enter at head) = event_of_entering s l.entry.thread
-window_event s l acts.Select = event_if_on s.on (moment_of l)
-window_event s l (acts.Offer at) = no_event
-window_event s l (acts.Pull name) = no_event
-window_event s l (acts.Look at) = no_event
-window_event s l acts.Aim = no_event
-window_event s l (acts.Ran us) = no_event
-window_event s l acts.Sleep = no_event
-window_event s l (acts.Wake name) = no_event
-window_event s l acts.End = no_event
-window_event s l acts.Blocked = no_event
-window_event s l acts.Refresh = no_event
-window_event s l (acts.Off at) = no_event
-window_event s l (acts.On at) = no_event
+abbrev pub window_event_by : Flat → Line → Act → WindowEvent
+window_event_by s l (acts.Enter at head) = event_of_entering s (moment_of l) l.entry.thread
+window_event_by s l acts.Select = event_if_on s.on (moment_of l)
+window_event_by s l _ = no_event
+
+abbrev pub window_event : Flat → Line → WindowEvent
+window_event s l = window_event_by s l (act_of l)
 
 -- the choice of a lane by deadlines, if a choice is one
 abbrev pub kind_at : Lane → Option Choice → Option Kind
@@ -60,17 +57,17 @@ kind_at at None = None
 kind_at at (Some c) = if same_lane c.lane at then c.kind else None
 
 -- the kind by which a select at a moment chooses a lane, if it does
-abbrev pub chosen_kind : List Times → Flat → ℕ → Lane → Option Kind
-chosen_kind ts s now at = kind_at at (chosen ts (expired ts s now))
+abbrev pub chosen_kind : Expiring → List Times → Flat → ℕ → Lane → Option Kind
+chosen_kind expiring ts s now at = kind_at at (chosen ts (expiring ts s now))
 
--- the window of a timeshare lane
-abbrev pub window_of : Flat → Lane → Option LaneState
-window_of s at = find (λ (l : LaneState). same_lane l.lane at) s.lanes
+-- the state of a timeshare lane
+abbrev pub lane_state : Flat → Lane → Option LaneState
+lane_state s at = find (λ (l : LaneState). same_lane l.lane at) s.lanes
 
--- whether a lane's starvation window ends by a moment, which renews its deadline
+-- whether a lane's starvation window is over by a moment
 abbrev pub window_ends : List Times → Flat → ℕ → Lane → Bool
 window_ends ts s now at =
-    option_map_or (λ (l : LaneState). window_over (times_for ts at.bucket).quantum now l.starved) (window_of s at) false
+    option_map_or (λ (l : LaneState). window_over (times_for ts at.bucket).quantum now l.starved) (lane_state s at) false
 
 -- the first Pass of a lane since its last Natural choice, and after a choice
 abbrev pub first_pass_after : Option ℕ → ℕ → Option Kind → Option ℕ
@@ -90,22 +87,22 @@ PassIsWithin warp (Some m) now (Some Pass) = now < m + warp
 
 -- the first Pass of a lane, after an event
 abbrev pub first_pass_by : List Times → Flat → Lane → Option ℕ → WindowEvent → Option ℕ
-first_pass_by ts s at first (select_at now) = first_pass_after first now (chosen_kind ts s now at)
-first_pass_by ts s at first (lane_fills filled) = first
+first_pass_by ts s at first (select_at now) = first_pass_after first now (chosen_kind expired ts s now at)
+first_pass_by ts s at first (lane_fills now filled) = first
 first_pass_by ts s at first no_event = first
 
 -- an event keeps the warp of a lane
 abbrev pub EventKeepsWarp : List Times → Flat → Lane → Option ℕ → WindowEvent → Type 0
-EventKeepsWarp ts s at first (select_at now) = PassIsWithin (times_for ts at.bucket).warp first now (chosen_kind ts s now at)
-EventKeepsWarp ts s at first (lane_fills filled) = ⊤
+EventKeepsWarp ts s at first (select_at now) = PassIsWithin (times_for ts at.bucket).warp first now (chosen_kind expired ts s now at)
+EventKeepsWarp ts s at first (lane_fills now filled) = ⊤
 EventKeepsWarp ts s at first no_event = ⊤
 
 -- every Pass of a lane, from a state on, lies within its warp; first is the first Pass since the last Natural choice
 abbrev pub WarpKept : SetupParts → ℕ → Lane → Option ℕ → Flat → List Line → Type 0
 WarpKept setup c at first s [] = ⊤
 WarpKept setup c at first s (l ∷ ls) =
-    EventKeepsWarp (cluster_times setup c) s at first (window_event s l (act_of l))
-    × WarpKept setup c at (first_pass_by (cluster_times setup c) s at first (window_event s l (act_of l))) (flat_after setup c s l (act_of l)) ls
+    EventKeepsWarp (cluster_times setup c) s at first (window_event s l)
+    × WarpKept setup c at (first_pass_by (cluster_times setup c) s at first (window_event s l)) (flat_after setup c s l) ls
 
 -- a lane is one of the ten
 abbrev pub IsTimeshare : Lane → Type 0
@@ -132,45 +129,72 @@ StarveIsWithin quantum first now (Some Pass) = ⊤
 StarveIsWithin quantum None now (Some Starve) = now < now + quantum
 StarveIsWithin quantum (Some m) now (Some Starve) = now < m + quantum
 
--- a select at the end of the window or later renews the deadline before it chooses
-abbrev pub RenewsInTime : ℕ → Option ℕ → ℕ → Bool → Type 0
-RenewsInTime quantum None now ends = ⊤
-RenewsInTime quantum (Some m) now ends = m + quantum ≤ now → IsTrue ends
+-- a lane's deadline is renewed at a moment: its state has no starvation window, and is due WCEL later
+abbrev pub IsRenewed : List Times → ℕ → Option LaneState → Type 0
+IsRenewed ts now None = ⊥
+IsRenewed ts now (Some l) = (l.starved ≡ No) × (l.deadline ≡ now + (times_for ts l.lane.bucket).wcel)
+
+-- a select at the end of the window or later finds the window over
+abbrev pub EndsInTime : ℕ → Option ℕ → ℕ → Bool → Type 0
+EndsInTime quantum None now over = ⊤
+EndsInTime quantum (Some m) now over = m + quantum ≤ now → IsTrue over
+
+-- a Natural choice of a lane renews its deadline
+abbrev pub NaturalRenews : List Times → ℕ → Option LaneState → Option Kind → Type 0
+NaturalRenews ts now after None = ⊤
+NaturalRenews ts now after (Some Natural) = IsRenewed ts now after
+NaturalRenews ts now after (Some Pass) = ⊤
+NaturalRenews ts now after (Some Starve) = ⊤
 
 -- the first Starve choice since a renewal, after an event: the end of a window and an entering into the empty lane renew, too
 abbrev pub unless_renewed : Bool → Option ℕ → Option ℕ
 unless_renewed true first = None
 unless_renewed false first = first
 
-abbrev pub first_starve_by : List Times → Flat → Lane → Option ℕ → WindowEvent → Option ℕ
-first_starve_by ts s at first (select_at now) =
-    first_starve_after (unless_renewed (window_ends ts s now at) first) now (chosen_kind ts s now at)
-first_starve_by ts s at first (lane_fills filled) = unless_renewed (same_lane filled at) first
-first_starve_by ts s at first no_event = first
+abbrev pub first_starve_by : Expiring → List Times → Flat → Lane → Option ℕ → WindowEvent → Option ℕ
+first_starve_by expiring ts s at first (select_at now) =
+    first_starve_after (unless_renewed (window_ends ts s now at) first) now (chosen_kind expiring ts s now at)
+first_starve_by expiring ts s at first (lane_fills now filled) = unless_renewed (same_lane filled at) first
+first_starve_by expiring ts s at first no_event = first
 
--- an event keeps the starvation window of a lane
-abbrev pub EventKeepsWindow : List Times → Flat → Lane → Option ℕ → WindowEvent → Type 0
-EventKeepsWindow ts s at first (select_at now) =
-    RenewsInTime (times_for ts at.bucket).quantum first now (window_ends ts s now at)
-    × StarveIsWithin (times_for ts at.bucket).quantum (unless_renewed (window_ends ts s now at) first) now (chosen_kind ts s now at)
-EventKeepsWindow ts s at first (lane_fills filled) = ⊤
-EventKeepsWindow ts s at first no_event = ⊤
+-- a select keeps the starvation window of a lane: one that is over ends in time, and ending renews the deadline before the choice;
+-- a Starve lies within it; and a Natural choice renews the deadline
+pub record SelectKeepsWindow (expiring : Expiring) (ts : List Times) (s next : Flat) (at : Lane) (first : Option ℕ) (now : ℕ) : Type 0 where
+  pub in_time : EndsInTime (times_for ts at.bucket).quantum first now (window_ends ts s now at)
+  pub ending_renews : IsTrue (window_ends ts s now at) → IsRenewed ts now (lane_state (expiring ts s now) at)
+  pub within : StarveIsWithin (times_for ts at.bucket).quantum (unless_renewed (window_ends ts s now at) first) now (chosen_kind expiring ts s now at)
+  pub natural_renews : NaturalRenews ts now (lane_state next at) (chosen_kind expiring ts s now at)
 
--- every Starve of a lane, from a state on, lies within its window; first is the first Starve since the last renewal
-abbrev pub WindowKept : SetupParts → ℕ → Lane → Option ℕ → Flat → List Line → Type 0
-WindowKept setup c at first s [] = ⊤
-WindowKept setup c at first s (l ∷ ls) =
-    EventKeepsWindow (cluster_times setup c) s at first (window_event s l (act_of l))
-    × WindowKept setup c at (first_starve_by (cluster_times setup c) s at first (window_event s l (act_of l))) (flat_after setup c s l (act_of l)) ls
+-- an event keeps the starvation window of a lane; an entering into the empty lane renews its deadline
+abbrev pub EventKeepsWindow : Expiring → List Times → Flat → Flat → Lane → Option ℕ → WindowEvent → Type 0
+EventKeepsWindow expiring ts s next at first (select_at now) = SelectKeepsWindow expiring ts s next at first now
+EventKeepsWindow expiring ts s next at first (lane_fills now filled) = IsTrue (same_lane filled at) → IsRenewed ts now (lane_state next at)
+EventKeepsWindow expiring ts s next at first no_event = ⊤
+
+-- every event from a state on keeps the starvation window of a lane; first is the first Starve since the last renewal
+abbrev pub WindowKept : Expiring → SetupParts → ℕ → Lane → Option ℕ → Flat → List Line → Type 0
+WindowKept expiring setup c at first s [] = ⊤
+WindowKept expiring setup c at first s (l ∷ ls) =
+    EventKeepsWindow expiring (cluster_times setup c) s (flat_after setup c s l) at first (window_event s l)
+    × WindowKept expiring setup c at (first_starve_by expiring (cluster_times setup c) s at first (window_event s l)) (flat_after setup c s l) ls
 
 -- quanta are not 0
 abbrev pub HasQuanta : List Times → Type 0
 HasQuanta ts = (b : Bucket) → 0 < (times_for ts b).quantum
 
--- the starvation law: in every run of a cluster, the Starve selections of a lane with no renewal between them lie within QUANTUM of the first,
--- and a select at its end or later, with no renewal since, renews the deadline before it chooses
-abbrev pub StarvationLaw : Type 0
-StarvationLaw =
+-- no cluster of a setup has a quantum of 0
+abbrev pub SetupsHaveQuanta : Type 0
+SetupsHaveQuanta = (setup : SetupParts) (c : ℕ) → IsSetup setup → c < cluster_count setup → HasQuanta (cluster_times setup c)
+
+-- the starvation law, of a way to let windows expire: in every run of a cluster, the Starve selections of a lane with no renewal of its
+-- deadline between them lie within QUANTUM of the first, a select at its end or later, with no renewal since, renews the deadline before it
+-- chooses, and so do a Natural choice and an entering into the empty lane
+abbrev pub StarvationLawOf : Expiring → Type 0
+StarvationLawOf expiring =
     (setup : SetupParts) (c : ℕ) (at : Lane) (ls : List Line) (end : Flat)
-    → IsTimeshare at → HasQuanta (cluster_times setup c) → CRun setup c ls end
-    → WindowKept setup c at None (empty_flat (group_count setup)) ls
+    → IsSetup setup → c < cluster_count setup → IsTimeshare at → CRun setup c ls end
+    → WindowKept expiring setup c at None (empty_flat (group_count setup)) ls
+
+-- it holds of the policy
+abbrev pub StarvationLaw : Type 0
+StarvationLaw = StarvationLawOf expired

@@ -2,7 +2,8 @@
 use Rattle.std.specs.List.{list_any}
 use Rattle.std.specs.Option.{option_map_or}
 use Rattle.std.specs.Prelude.{Bool, Err, IsTrue, List, None, Ok, Option, Result, Some, [], count_by, false, filter, find, if◌then◌else◌, is_none, is_some, length, max, nat_le, nat_lt, not, replicate, slice_index_or, slice_set, sum_by, true, unwrap_or, ℕ, ◌&&◌, ◌++◌, ◌+◌, ◌-◌, ◌==◌, ◌^◌, ◌∷◌, ◌≡◌}
-use Rattle.sched_base.specs.Facts.{charged, fresh, rested}
+use Rattle.sched_base.specs.Facts.{charged, rested}
+use Rattle.sched_base.specs.Limits.{moment_limit, most_base}
 use Rattle.sched_base.specs.declared.Act.{Act}
 use Rattle.sched_base.specs.declared.Answer.{Answer}
 use Rattle.sched_base.specs.declared.Bucket.{Bucket}
@@ -14,7 +15,8 @@ use Rattle.sched_base.specs.declared.Step.{Step}
 use Rattle.flat_policy.specs.Policy.Aim.{Look, aim, off, loaded, may_enter, not_looked}
 use Rattle.flat_policy.specs.Policy.ClusterSteps.{Event, enter_event, look_event, named_entry, offer_event, power_event, pull_event, refresh_event, select_event}
 use Rattle.flat_policy.specs.Policy.Queue.{Flat, Queued, empty_flat}
-use Rattle.flat_policy.specs.Policy.Setup.{SetupParts, actor_count, cluster_count, group_count, home_of, preferred_cluster, rate_of}
+use Rattle.flat_policy.specs.Policy.Setup.{SetupParts, actor_count, cluster_count, group_count, home_of, rate_of}
+use Rattle.flat_policy.specs.Policy.Threads.{made_thread}
 use Rattle.sched_base.specs.declared.Act.TheVariants as acts
 use Rattle.sched_base.specs.declared.Answer.TheVariants as answers
 use Rattle.sched_base.specs.declared.Place.TheVariants as places
@@ -73,34 +75,47 @@ no_hand = record { thread = None; looks = []; last = 0 }
 abbrev pub hand_at : MachineState → ℕ → Hand
 hand_at g a = slice_index_or g.hands a no_hand
 
--- the place of a step: a cluster, the yard, or none
-abbrev pub spot_by : SetupParts → ℕ → Act → Option Spot
-spot_by setup actor (acts.Make name group bucket base bound) = Some spots.Yard
-spot_by setup actor (acts.Enter c head) = Some (spots.Cluster c)
-spot_by setup actor acts.Select = Some (spots.Cluster (home_of setup actor))
-spot_by setup actor (acts.Offer c) = Some (spots.Cluster c)
-spot_by setup actor (acts.Pull name) = Some (spots.Cluster (home_of setup actor))
-spot_by setup actor (acts.Look c) = Some (spots.Cluster c)
-spot_by setup actor acts.Aim = None
-spot_by setup actor (acts.Ran us) = None
-spot_by setup actor acts.Sleep = Some spots.Yard
-spot_by setup actor (acts.Wake name) = Some spots.Yard
-spot_by setup actor acts.End = Some spots.Yard
-spot_by setup actor acts.Blocked = Some spots.Yard
-spot_by setup actor acts.Refresh = Some (spots.Cluster (home_of setup actor))
-spot_by setup actor (acts.Off c) = Some (spots.Cluster c)
-spot_by setup actor (acts.On c) = Some (spots.Cluster c)
+-- where an act happens: at the actor's home, at a named cluster, in the yard, or in the hand alone
+pub data Site : Type 0 where
+  at_home : Site
+  at_named : ℕ → Site
+  in_the_yard : Site
+  in_hand : Site
+
+abbrev pub site_of : Act → Site
+site_of (acts.Make name group bucket base bound) = in_the_yard
+site_of (acts.Enter c head) = at_named c
+site_of acts.Select = at_home
+site_of (acts.Offer c) = at_named c
+site_of (acts.Pull name) = at_home
+site_of (acts.Look c) = at_named c
+site_of acts.Aim = in_hand
+site_of (acts.Ran us) = in_hand
+site_of acts.Sleep = in_the_yard
+site_of (acts.Wake name) = in_the_yard
+site_of acts.End = in_the_yard
+site_of acts.Blocked = in_the_yard
+site_of acts.Refresh = at_home
+site_of (acts.Off c) = at_named c
+site_of (acts.On c) = at_named c
+
+-- the spot of a step: a cluster, the yard, or none; home is the cluster of its actor
+abbrev pub spot_from : ℕ → Site → Option Spot
+spot_from home at_home = Some (spots.Cluster home)
+spot_from home (at_named c) = Some (spots.Cluster c)
+spot_from home in_the_yard = Some spots.Yard
+spot_from home in_hand = None
 
 abbrev pub spot_of : SetupParts → Step → Option Spot
-spot_of setup step = spot_by setup step.actor step.act
+spot_of setup step = spot_from (home_of setup step.actor) (site_of step.act)
 
--- the last moment of a place, 0 for none
+-- the last moment of a spot, 0 for none
 abbrev pub last_at : MachineState → Option Spot → ℕ
 last_at g None = 0
 last_at g (Some (spots.Cluster c)) = (flat_at g c).last
 last_at g (Some spots.Yard) = g.yard.last
 
--- the effective moment: the greatest of the handed one, the actor's last and the place's last
+-- the effective moment: the greatest of the handed one, the actor's last and the spot's last
 abbrev pub effective_moment : SetupParts → MachineState → Step → ℕ
 effective_moment setup g step = max (max step.moment (hand_at g step.actor).last) (last_at g (spot_of setup step))
 
@@ -134,6 +149,10 @@ pub record Refusal : Type 0 where
 abbrev pub refuse : Bool → Answer → Refusal
 refuse holds answer = record { holds = holds; answer = answer }
 
+-- a refusal that never comes
+abbrev pub no_refusal : Refusal
+no_refusal = refuse false answers.HandEmpty
+
 -- the first refusal whose condition holds
 abbrev pub first_refusal : List Refusal → Option Answer
 first_refusal [] = None
@@ -157,7 +176,7 @@ no_room setup y = refuse (nat_le setup.threads (live_count y)) answers.NoRoom
 
 -- the thread of a hand may not enter the cluster
 abbrev pub not_allowed : SetupParts → Option Facts → ℕ → Refusal
-not_allowed setup None c = refuse false answers.NotAllowed
+not_allowed setup None c = no_refusal
 not_allowed setup (Some t) c = refuse (not (may_enter setup t c)) answers.NotAllowed
 
 -- the name does not stand in the home's queue
@@ -170,11 +189,11 @@ not_blocked g name = refuse (not (is_blocked g.yard name)) (answers.NotBlocked (
 
 -- the aim needs a look
 abbrev pub look_first_by : Option ℕ → Refusal
-look_first_by None = refuse false answers.HandEmpty
+look_first_by None = no_refusal
 look_first_by (Some c) = refuse true (answers.LookFirst c)
 
 abbrev pub look_first : SetupParts → Hand → Option Facts → Refusal
-look_first setup h None = refuse false answers.HandEmpty
+look_first setup h None = no_refusal
 look_first setup h (Some t) = look_first_by (not_looked setup h.looks t)
 
 -- the refusals of each step, in their order
@@ -232,37 +251,33 @@ with_yard y g = record g { yard = y }
 pub record Outcome : Type 0 where
   pub answer : Answer
   pub thread : Option Facts
-  pub game : MachineState
+  pub state : MachineState
 
 -- a step at a cluster that puts what it takes into the actor's hand
 abbrev pub taking : SetupParts → MachineState → ℕ → Hand → ℕ → ℕ → Event → Outcome
 taking setup g a h c now e =
-    record { answer = e.answer; thread = e.thread; game = with_hand a (taking_hand setup h e.thread now) (with_flat c e.flat g) }
+    record { answer = e.answer; thread = e.thread; state = with_hand a (taking_hand setup h e.thread now) (with_flat c e.flat g) }
 
 -- a step at a cluster that leaves the hand's thread and looks
 abbrev pub leaving_hand : MachineState → ℕ → Hand → ℕ → ℕ → Event → Outcome
-leaving_hand g a h c now e = record { answer = e.answer; thread = None; game = with_hand a (kept_hand h now) (with_flat c e.flat g) }
+leaving_hand g a h c now e = record { answer = e.answer; thread = None; state = with_hand a (kept_hand h now) (with_flat c e.flat g) }
 
 -- a step that has no effect; no accepted step comes to it
 abbrev pub nothing_done : MachineState → Outcome
-nothing_done g = record { answer = answers.Yes; thread = None; game = g }
+nothing_done g = record { answer = answers.Yes; thread = None; state = g }
 
 -- making a thread
-abbrev pub made_thread : SetupParts → ℕ → ℕ → Bucket → ℕ → Option ℕ → ℕ → Facts
-made_thread setup name group bucket base bound now =
-    fresh name group bucket base bound (unwrap_or bound (preferred_cluster setup group bucket)) now
-
 abbrev pub make_outcome : SetupParts → MachineState → ℕ → ℕ → Facts → Outcome
 make_outcome setup g a now t = record {
   answer = answers.Yes;
   thread = Some t;
-  game = with_hand a (filled_hand setup t now) (with_yard (record g.yard { made = g.yard.made ++ t.name ∷ []; last = now }) g);
+  state = with_hand a (filled_hand setup t now) (with_yard (record g.yard { made = g.yard.made ++ t.name ∷ []; last = now }) g);
 }
 
 -- entering a cluster's queue with the hand's thread
 abbrev pub enter_outcome_by : SetupParts → MachineState → ℕ → ℕ → ℕ → Event → Outcome
 enter_outcome_by setup g a c now e =
-    record { answer = e.answer; thread = e.thread; game = with_hand a (empty_hand setup now) (with_flat c e.flat g) }
+    record { answer = e.answer; thread = e.thread; state = with_hand a (empty_hand setup now) (with_flat c e.flat g) }
 
 abbrev pub enter_outcome : SetupParts → MachineState → ℕ → ℕ → Bool → ℕ → Option Facts → Outcome
 enter_outcome setup g a c head now None = nothing_done g
@@ -275,7 +290,7 @@ pull_outcome setup g a h c now (Some e) = taking setup g a h c now (pull_event e
 
 -- looking at a cluster for the hand's bucket
 abbrev pub look_outcome_by : MachineState → ℕ → Hand → ℕ → ℕ → Event → Outcome
-look_outcome_by g a h c now e = record { answer = e.answer; thread = None; game = with_hand a (looked_hand h c e.answer now) (with_flat c e.flat g) }
+look_outcome_by g a h c now e = record { answer = e.answer; thread = None; state = with_hand a (looked_hand h c e.answer now) (with_flat c e.flat g) }
 
 abbrev pub look_outcome : SetupParts → MachineState → ℕ → Hand → ℕ → ℕ → Option Facts → Outcome
 look_outcome setup g a h c now None = nothing_done g
@@ -289,11 +304,11 @@ aim_answer (Err c) = answers.LookFirst c
 abbrev pub aim_outcome : SetupParts → MachineState → ℕ → Hand → ℕ → Option Facts → Outcome
 aim_outcome setup g a h now None = nothing_done g
 aim_outcome setup g a h now (Some t) =
-    record { answer = aim_answer (aim setup h.looks t); thread = None; game = with_hand a (kept_hand h now) g }
+    record { answer = aim_answer (aim setup h.looks t); thread = None; state = with_hand a (kept_hand h now) g }
 
 -- charging the hand's thread
 abbrev pub ran_outcome_by : MachineState → ℕ → Hand → ℕ → Facts → Outcome
-ran_outcome_by g a h now t = record { answer = answers.Work t.work; thread = Some t; game = with_hand a (record h { thread = Some t; last = now }) g }
+ran_outcome_by g a h now t = record { answer = answers.Work t.work; thread = Some t; state = with_hand a (record h { thread = Some t; last = now }) g }
 
 abbrev pub ran_outcome : SetupParts → MachineState → ℕ → Hand → ℕ → ℕ → Option Facts → Outcome
 ran_outcome setup g a h us now None = nothing_done g
@@ -305,7 +320,7 @@ sleep_outcome setup g a now None = nothing_done g
 sleep_outcome setup g a now (Some t) = record {
   answer = answers.Yes;
   thread = Some t;
-  game = with_hand a (empty_hand setup now)
+  state = with_hand a (empty_hand setup now)
       (with_yard (record g.yard { blocked = g.yard.blocked ++ record { facts = t; since = now } ∷ []; last = now }) g);
 }
 
@@ -322,7 +337,7 @@ abbrev pub wake_outcome_by : SetupParts → MachineState → ℕ → ℕ → Fac
 wake_outcome_by setup g a now t = record {
   answer = answers.Yes;
   thread = Some t;
-  game = with_hand a (filled_hand setup t now)
+  state = with_hand a (filled_hand setup t now)
       (with_yard (record g.yard { blocked = sleepers_without t.name g.yard.blocked; last = now }) g);
 }
 
@@ -336,7 +351,7 @@ end_outcome setup g a now None = nothing_done g
 end_outcome setup g a now (Some t) = record {
   answer = answers.Yes;
   thread = Some t;
-  game = with_hand a (empty_hand setup now) (with_yard (record g.yard { ended = g.yard.ended ++ t.name ∷ []; last = now }) g);
+  state = with_hand a (empty_hand setup now) (with_yard (record g.yard { ended = g.yard.ended ++ t.name ∷ []; last = now }) g);
 }
 
 -- counting the blocked threads
@@ -344,7 +359,7 @@ abbrev pub blocked_outcome : MachineState → ℕ → Hand → ℕ → Outcome
 blocked_outcome g a h now = record {
   answer = answers.Left (length g.yard.blocked);
   thread = None;
-  game = with_hand a (kept_hand h now) (with_yard (record g.yard { last = now }) g);
+  state = with_hand a (kept_hand h now) (with_yard (record g.yard { last = now }) g);
 }
 
 -- what each accepted step comes to
@@ -370,7 +385,7 @@ accepted_by setup g a h now (acts.On c) = leaving_hand g a h c now (power_event 
 
 -- a refused step leaves all as it was
 abbrev pub outcome_by : SetupParts → MachineState → Step → Option Answer → Outcome
-outcome_by setup g step (Some answer) = record { answer = answer; thread = None; game = g }
+outcome_by setup g step (Some answer) = record { answer = answer; thread = None; state = g }
 outcome_by setup g step None = accepted_by setup g step.actor (hand_at g step.actor) (effective_moment setup g step) step.act
 
 -- what a step comes to
@@ -387,7 +402,7 @@ reply setup g step = record {
 
 -- the state after a step
 abbrev pub state_after : SetupParts → MachineState → Step → MachineState
-state_after setup g step = (outcome setup g step).game
+state_after setup g step = (outcome setup g step).state
 
 -- the replies to a list of steps, and the state after them
 abbrev pub replies : SetupParts → MachineState → List Step → List Entry
@@ -398,35 +413,38 @@ abbrev pub states_after : SetupParts → MachineState → List Step → MachineS
 states_after setup g [] = g
 states_after setup g (step ∷ steps) = states_after setup (state_after setup g step) steps
 
--- whether the setup fits a step: its moment, base, actor, clusters, group and bound cluster are in range
+-- whether the names and spans of an act are below 2^32
+abbrev pub numbers_fit : Act → Bool
+numbers_fit (acts.Make name group bucket base bound) = nat_lt name (2 ^ 32)
+numbers_fit (acts.Pull name) = nat_lt name (2 ^ 32)
+numbers_fit (acts.Wake name) = nat_lt name (2 ^ 32)
+numbers_fit (acts.Ran us) = nat_lt us (2 ^ 32)
+numbers_fit _ = true
+
+-- whether a cluster that an act names is there, and whether a thread that it makes is in range
 abbrev pub fits_act : SetupParts → Act → Bool
 fits_act setup (acts.Make name group bucket base bound) =
-    nat_lt group (group_count setup) && (nat_le base 127 && option_map_or (λ c. nat_lt c (cluster_count setup)) bound true)
+    nat_lt group (group_count setup) && (nat_le base most_base && option_map_or (λ c. nat_lt c (cluster_count setup)) bound true)
 fits_act setup (acts.Enter c head) = nat_lt c (cluster_count setup)
-fits_act setup acts.Select = true
 fits_act setup (acts.Offer c) = nat_lt c (cluster_count setup)
-fits_act setup (acts.Pull name) = true
 fits_act setup (acts.Look c) = nat_lt c (cluster_count setup)
-fits_act setup acts.Aim = true
-fits_act setup (acts.Ran us) = true
-fits_act setup acts.Sleep = true
-fits_act setup (acts.Wake name) = true
-fits_act setup acts.End = true
-fits_act setup acts.Blocked = true
-fits_act setup acts.Refresh = true
 fits_act setup (acts.Off c) = nat_lt c (cluster_count setup)
 fits_act setup (acts.On c) = nat_lt c (cluster_count setup)
+fits_act setup _ = true
 
+-- whether the setup fits a step: its moment, actor, clusters, group, base, bound cluster, names and spans are in range
 abbrev pub fits_step : SetupParts → Step → Bool
-fits_step setup step = nat_lt step.moment (2 ^ 40) && (nat_lt step.actor (actor_count setup) && fits_act setup step.act)
+fits_step setup step =
+    nat_lt step.moment moment_limit
+    && (nat_lt step.actor (actor_count setup) && (fits_act setup step.act && numbers_fit step.act))
 
--- a run from a state: each line is a step that the setup fits, and is what the machine replies to it
+-- a history from a state: each line is a step that the setup fits, and is what the machine replies to it
 abbrev pub RunsFrom : SetupParts → MachineState → List Entry → MachineState → Type 0
 RunsFrom setup g [] end = end ≡ g
 RunsFrom setup g (e ∷ es) end =
     IsTrue (fits_step setup e.step) × (reply setup g e.step ≡ e) × RunsFrom setup (state_after setup g e.step) es end
 
--- a run from the empty machine
+-- a history of the machine: one from its empty state
 abbrev pub GRun : SetupParts → List Entry → MachineState → Type 0
 GRun setup history end = RunsFrom setup (empty_machine setup) history end
 
@@ -442,6 +460,14 @@ count_in_yard name y = count_by (λ (w : Sleeper). w.facts.name == name) y.block
 
 abbrev pub place_count : MachineState → ℕ → ℕ
 place_count g name = sum_by (count_queued name) g.flats + sum_by (count_held name) g.hands + count_in_yard name g.yard
+
+-- how often a name stands at one place
+abbrev pub count_at : MachineState → Place → ℕ → ℕ
+count_at g (places.Queue c) name = count_queued name (flat_at g c)
+count_at g (places.Hand a) name = count_held name (hand_at g a)
+count_at g places.Blocked name = count_by (λ (w : Sleeper). w.facts.name == name) g.yard.blocked
+count_at g places.Ended name = count_by (λ n. n == name) g.yard.ended
+count_at g places.Nowhere name = 0
 
 -- the number of places that each name should have: 1 where it was made, 0 otherwise
 abbrev pub expected_count : MachineState → ℕ → ℕ

@@ -1,5 +1,6 @@
 -- Which thread a cluster offers to another along an edge.
-use Rattle.std.specs.Prelude.{Bool, IsTrue, None, Option, Some, filter, if◌then◌else◌, is_some, nat_lt, not, ℕ, ◌&&◌, ◌==◌, ◌||◌}
+use Rattle.std.specs.Prelude.{Bool, IsTrue, None, Option, Some, filter, if◌then◌else◌, is_some, nat_lt, not, ℕ, ◌&&◌, ◌-◌, ◌==◌, ◌||◌}
+use Rattle.sched_base.specs.Limits.{steal_masks}
 use Rattle.sched_base.specs.Bucket.{index}
 use Rattle.sched_base.specs.declared.Facts.{Facts}
 use Rattle.flat_policy.specs.Policy.Precedence.{precedes, precedes_in_lane}
@@ -10,7 +11,7 @@ use Rattle.flat_policy.specs.Policy.Unpreceded.{unpreceded}
 -- the bucket indices that may be taken along the edge from one cluster to another, as the bits of a number:
 -- all six where the first is off and threads may move along the edge, otherwise those of the edge
 abbrev pub mask_between : SetupParts → ℕ → ℕ → Bool → ℕ
-mask_between setup from to on = if not on && migrates setup from to then 63 else steal_mask setup from to
+mask_between setup from to on = if not on && migrates setup from to then steal_masks - 1 else steal_mask setup from to
 
 -- whether a thread is unbound
 abbrev pub is_unbound : Facts → Bool

@@ -1,6 +1,7 @@
 -- The ranges of a setup's fields, and the setup that numbers in range make.
 use Rattle.std.specs.List.{list_all, list_any}
-use Rattle.std.specs.Prelude.{Bool, List, None, Option, Some, [], if◌then◌else◌, length, map, nat_le, nat_lt, not, slice_index, slice_index_or, sum_by, true, ℕ, ◌&&◌, ◌++◌, ◌==◌, ◌∷◌}
+use Rattle.std.specs.Prelude.{Bool, List, None, Option, Some, [], if◌then◌else◌, length, map, nat_le, nat_lt, not, slice_index, slice_index_or, sum_by, true, ℕ, ◌&&◌, ◌++◌, ◌-◌, ◌==◌, ◌∷◌}
+use Rattle.sched_base.specs.Limits.{least_quantum, least_rate, most_actors, most_clusters, most_edges, most_groups, most_quantum, most_rate, most_threads, most_warp, most_wcel, most_weight, steal_masks}
 use Rattle.flat_policy.specs.declared.setup.EdgeSpec.{EdgeSpec}
 use Rattle.flat_policy.specs.declared.setup.Field.{Field}
 use Rattle.flat_policy.specs.declared.setup.Times.{Times}
@@ -21,19 +22,19 @@ between low high n = nat_le low n && nat_le n high
 
 -- a cluster `[cpus, rate]`: 1 to 16 processors, a rate of 100 to 1000
 abbrev pub is_cluster_row : List ℕ → Bool
-is_cluster_row row = between 1 16 (nth row 0) && between 100 1000 (nth row 1)
+is_cluster_row row = between 1 most_actors (nth row 0) && between least_rate most_rate (nth row 1)
 
 -- 1 to 8 clusters, 16 processors in all
 abbrev pub clusters_in_range : List (List ℕ) → Bool
 clusters_in_range clusters =
-    between 1 8 (length clusters) && (list_all is_cluster_row clusters && nat_le (sum_by (λ row. nth row 0) clusters) 16)
+    between 1 most_clusters (length clusters) && (list_all is_cluster_row clusters && nat_le (sum_by (λ row. nth row 0) clusters) most_actors)
 
 -- an edge `[from, to, weight, migrate, steal]`, among so many clusters
 abbrev pub is_edge_row : ℕ → List ℕ → Bool
 is_edge_row count row =
     (nat_lt (nth row 0) count && nat_lt (nth row 1) count)
     && (not (nth row 0 == nth row 1)
-    && (nat_le (nth row 2) 10000000 && (nat_le (nth row 3) 1 && nat_le (nth row 4) 63)))
+    && (nat_le (nth row 2) most_weight && (nat_le (nth row 3) 1 && nat_le (nth row 4) (steal_masks - 1))))
 
 -- two edges lead from one cluster to one other
 abbrev pub same_ends : List ℕ → List ℕ → Bool
@@ -46,15 +47,15 @@ ends_differ (row ∷ rows) = not (list_any (same_ends row) rows) && ends_differ 
 
 -- at most 56 edges
 abbrev pub edges_in_range : ℕ → List (List ℕ) → Bool
-edges_in_range count edges = nat_le (length edges) 56 && (list_all (is_edge_row count) edges && ends_differ edges)
+edges_in_range count edges = nat_le (length edges) most_edges && (list_all (is_edge_row count) edges && ends_differ edges)
 
 -- 1 to 64 groups, whose preferred clusters are there
 abbrev pub groups_in_range : ℕ → List (List ℕ) → Bool
-groups_in_range count groups = between 1 64 (length groups) && list_all (all_below count) groups
+groups_in_range count groups = between 1 most_groups (length groups) && list_all (all_below count) groups
 
 -- 1 to 4096 threads
 abbrev pub threads_in_range : ℕ → Bool
-threads_in_range threads = between 1 4096 threads
+threads_in_range threads = between 1 most_threads threads
 
 -- the times of one cluster, three rows by bucket index: WCEL, WARP and QUANTUM; WCEL and WARP of UI are 0
 abbrev pub row_of_times : List (List ℕ) → ℕ → List ℕ
@@ -62,8 +63,8 @@ row_of_times rows i = slice_index_or rows i []
 
 abbrev pub is_times_row : List (List ℕ) → Bool
 is_times_row rows =
-    (list_all (λ n. nat_le n 10000000) (row_of_times rows 0) && list_all (λ n. nat_le n 1000000) (row_of_times rows 1))
-    && (list_all (between 1000 100000) (row_of_times rows 2)
+    (list_all (λ n. nat_le n most_wcel) (row_of_times rows 0) && list_all (λ n. nat_le n most_warp) (row_of_times rows 1))
+    && (list_all (between least_quantum most_quantum) (row_of_times rows 2)
     && ((nth (row_of_times rows 0) 0 == 0) && (nth (row_of_times rows 1) 0 == 0)))
 
 -- as many times as clusters

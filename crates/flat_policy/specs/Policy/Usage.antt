@@ -1,11 +1,12 @@
 -- How a thread's use of a processor lowers its priority, decays, and scores its group.
 use Rattle.std.specs.Prelude.{if◌then◌else◌, min, nat_lt, suc, zero, ℕ, ◌&&◌, ◌*◌, ◌+◌, ◌-◌, ◌/◌, ◌==◌}
+use Rattle.sched_base.specs.Limits.{tick}
 use Rattle.sched_base.specs.declared.Bucket.{Bucket}
 use Rattle.sched_base.specs.declared.Bucket.TheVariants.{Bg, Df, Fg, Ini, Ui, Ut}
 
 -- the ticks of 125000 microseconds between two moments; none backwards
 abbrev pub ticks : ℕ → ℕ → ℕ
-ticks from to = to / 125000 - from / 125000
+ticks from to = to / tick - from / tick
 
 -- usage after a number of ticks: each leaves five eighths of it
 abbrev pub decayed_by : ℕ → ℕ → ℕ

@@ -80,17 +80,9 @@ due_before x y = nat_lt x.deadline y.deadline || ((x.deadline == y.deadline) && 
 abbrev pub earliest_of : List LaneState → Option LaneState
 earliest_of filled = unpreceded due_before filled
 
--- the timeshare lane with entries that is due first
-abbrev pub earliest : Flat → Option LaneState
-earliest s = earliest_of (filled_lanes s)
-
 -- of some lanes, those whose bucket is higher than that of a lane
 abbrev pub higher_of : List LaneState → LaneState → List LaneState
 higher_of filled e = filter (λ (l : LaneState). nat_lt (index l.lane.bucket) (index e.lane.bucket)) filled
-
--- the lanes with entries whose bucket is higher than that of a lane
-abbrev pub higher_lanes : Flat → LaneState → List LaneState
-higher_lanes s e = higher_of (filled_lanes s) e
 
 -- a warp that is not spent
 abbrev pub unspent : Warp → Bool
@@ -105,10 +97,6 @@ may_pass ts l = not ((times_for ts l.lane.bucket).warp == 0) && unspent l.warp
 -- of some lanes, the highest that may pass e
 abbrev pub passing_of : List Times → List LaneState → LaneState → Option LaneState
 passing_of ts filled e = unpreceded (λ (x y : LaneState). stands_higher x.lane y.lane) (filter (may_pass ts) (higher_of filled e))
-
--- the highest lane with entries that may pass e
-abbrev pub passing : List Times → Flat → LaneState → Option LaneState
-passing ts s e = passing_of ts (filled_lanes s) e
 
 -- a choice: the lane, and how it came to be chosen; a UI lane has no kind
 pub record Choice : Type 0 where
@@ -127,9 +115,6 @@ some_higher (l ∷ ls) = true
 abbrev pub choice_against : Option LaneState → List LaneState → LaneState → Choice
 choice_against (Some l) filled e = record { lane = l.lane; kind = Some Pass }
 choice_against None filled e = chosen_behind (some_higher (higher_of filled e)) e
-
-abbrev pub chosen_against : Option LaneState → Flat → LaneState → Choice
-chosen_against l s e = choice_against l (filled_lanes s) e
 
 -- the choice among some lanes, which are those with entries
 abbrev pub chosen_of : List Times → List LaneState → Option Choice

@@ -1,35 +1,20 @@
 -- Lists of one place and of one actor, put together into one list.
 use Rattle.std.specs.List.{list_any}
-use Rattle.std.specs.Prelude.{Bool, List, None, Option, Some, [], false, filter, if◌then◌else◌, length, map, slice_index_or, true, ℕ, ⊤, ◌&&◌, ◌+◌, ◌<◌, ◌==◌, ◌∷◌, ◌≡◌}
-use Rattle.sched_base.specs.declared.Act.{Act}
-use Rattle.sched_base.specs.declared.Entry.{Entry}
+use Rattle.std.specs.Prelude.{Bool, List, None, Option, Some, [], false, filter, if◌then◌else◌, length, slice_index_or, true, ℕ, ⊤, ◌&&◌, ◌+◌, ◌<◌, ◌==◌, ◌∷◌, ◌≡◌}
 use Rattle.sched_base.specs.declared.Spot.{Spot}
 use Rattle.flat_policy.specs.declared.journal.Line.{Line}
+use Rattle.flat_policy.specs.Policy.Machine.{Site, at_home, site_of, spot_from}
 use Rattle.flat_policy.specs.Runs.Histories.{act_of, actor_of}
-use Rattle.sched_base.specs.declared.Act.TheVariants as acts
 use Rattle.sched_base.specs.declared.Spot.TheVariants as spots
 
--- whether a line is a select, a pull or a refresh
-abbrev pub at_home : Act → Bool
-at_home (acts.Make name group bucket base bound) = false
-at_home (acts.Enter at head) = false
-at_home acts.Select = true
-at_home (acts.Offer at) = false
-at_home (acts.Pull name) = true
-at_home (acts.Look at) = false
-at_home acts.Aim = false
-at_home (acts.Ran us) = false
-at_home acts.Sleep = false
-at_home (acts.Wake name) = false
-at_home acts.End = false
-at_home acts.Blocked = false
-at_home acts.Refresh = true
-at_home (acts.Off at) = false
-at_home (acts.On at) = false
+-- whether a line happens at its actor's home: a select, a pull or a refresh
+abbrev pub is_at_home : Site → Bool
+is_at_home at_home = true
+is_at_home _ = false
 
 -- whether a journal holds a select, pull or refresh of an actor
 abbrev pub is_home_journal : ℕ → List Line → Bool
-is_home_journal a ls = list_any (λ (l : Line). at_home (act_of l) && (actor_of l == a)) ls
+is_home_journal a ls = list_any (λ (l : Line). is_at_home (site_of (act_of l)) && (actor_of l == a)) ls
 
 -- the first cluster whose journal holds such a line of an actor; cluster 0 where none does
 abbrev pub home_from : ℕ → ℕ → List (List Line) → ℕ
@@ -39,28 +24,11 @@ home_from a c (j ∷ js) = if is_home_journal a j then c else home_from a (c + 1
 abbrev pub home_by_journals : List (List Line) → ℕ → ℕ
 home_by_journals clusters a = home_from a 0 clusters
 
--- the place of a line, by the journals of the clusters
-abbrev pub spot_by_journals : List (List Line) → ℕ → Act → Option Spot
-spot_by_journals clusters a (acts.Make name group bucket base bound) = Some spots.Yard
-spot_by_journals clusters a (acts.Enter at head) = Some (spots.Cluster at)
-spot_by_journals clusters a acts.Select = Some (spots.Cluster (home_by_journals clusters a))
-spot_by_journals clusters a (acts.Offer at) = Some (spots.Cluster at)
-spot_by_journals clusters a (acts.Pull name) = Some (spots.Cluster (home_by_journals clusters a))
-spot_by_journals clusters a (acts.Look at) = Some (spots.Cluster at)
-spot_by_journals clusters a acts.Aim = None
-spot_by_journals clusters a (acts.Ran us) = None
-spot_by_journals clusters a acts.Sleep = Some spots.Yard
-spot_by_journals clusters a (acts.Wake name) = Some spots.Yard
-spot_by_journals clusters a acts.End = Some spots.Yard
-spot_by_journals clusters a acts.Blocked = Some spots.Yard
-spot_by_journals clusters a acts.Refresh = Some (spots.Cluster (home_by_journals clusters a))
-spot_by_journals clusters a (acts.Off at) = Some (spots.Cluster at)
-spot_by_journals clusters a (acts.On at) = Some (spots.Cluster at)
+-- the spot of a line, by the journals of the clusters
+abbrev pub spot_by_journals : List (List Line) → Line → Option Spot
+spot_by_journals clusters l = spot_from (home_by_journals clusters (actor_of l)) (site_of (act_of l))
 
-abbrev pub spot_of_line : List (List Line) → Line → Option Spot
-spot_of_line clusters l = spot_by_journals clusters (actor_of l) (act_of l)
-
--- whether a place is a cluster, or the yard
+-- whether a spot is a cluster, or the yard
 abbrev pub is_cluster : ℕ → Option Spot → Bool
 is_cluster c None = false
 is_cluster c (Some (spots.Cluster d)) = d == c
@@ -71,25 +39,33 @@ is_yard None = false
 is_yard (Some (spots.Cluster d)) = false
 is_yard (Some spots.Yard) = true
 
--- a list of lines restricted to a cluster, to the yard, and to an actor
+-- lines restricted to a cluster, and to the yard, where each line has a spot or none
+abbrev pub lines_at : (Line → Option Spot) → ℕ → List Line → List Line
+lines_at spot c ls = filter (λ (l : Line). is_cluster c (spot l)) ls
+
+abbrev pub yard_lines : (Line → Option Spot) → List Line → List Line
+yard_lines spot ls = filter (λ (l : Line). is_yard (spot l)) ls
+
+-- the same by the journals of the clusters
 abbrev pub lines_at_cluster : List (List Line) → ℕ → List Line → List Line
-lines_at_cluster clusters c ls = filter (λ (l : Line). is_cluster c (spot_of_line clusters l)) ls
+lines_at_cluster clusters c ls = lines_at (spot_by_journals clusters) c ls
 
 abbrev pub lines_in_yard : List (List Line) → List Line → List Line
-lines_in_yard clusters ls = filter (λ (l : Line). is_yard (spot_of_line clusters l)) ls
+lines_in_yard clusters ls = yard_lines (spot_by_journals clusters) ls
 
+-- lines restricted to an actor
 abbrev pub lines_of_actor : ℕ → List Line → List Line
 lines_of_actor a ls = filter (λ (l : Line). actor_of l == a) ls
 
--- a place is that of a given journal, or none
+-- a spot is that of a given journal, or none
 abbrev pub IsGivenSpot : ℕ → Option Spot → Type 0
 IsGivenSpot count None = ⊤
 IsGivenSpot count (Some (spots.Cluster c)) = c < count
 IsGivenSpot count (Some spots.Yard) = ⊤
 
--- a line is of an actor with a given log, and has a given place or none
+-- a line is of an actor with a given log, and has the spot of a given journal or none
 abbrev pub IsGiven : List (List Line) → List (List Line) → Line → Type 0
-IsGiven clusters logs l = (actor_of l < length logs) × IsGivenSpot (length clusters) (spot_of_line clusters l)
+IsGiven clusters logs l = (actor_of l < length logs) × IsGivenSpot (length clusters) (spot_by_journals clusters l)
 
 -- a fact of each line
 abbrev pub EachLine : (Line → Type 0) → List Line → Type 0
@@ -97,13 +73,9 @@ EachLine P [] = ⊤
 EachLine P (l ∷ ls) = P l × EachLine P ls
 
 -- history is an interleaving of the journals of the clusters, that of the yard, and the logs of the actors:
--- restricted to each place it is that journal, and restricted to each actor that log
+-- restricted to each spot it is that journal, and restricted to each actor that log
 pub record Interleaves (clusters : List (List Line)) (yard : List Line) (logs : List (List Line)) (history : List Line) : Type 0 where
   pub at_clusters : (c : ℕ) → c < length clusters → lines_at_cluster clusters c history ≡ slice_index_or clusters c []
   pub in_yard : lines_in_yard clusters history ≡ yard
   pub of_actors : (a : ℕ) → a < length logs → lines_of_actor a history ≡ slice_index_or logs a []
   pub given : EachLine (IsGiven clusters logs) history
-
--- the entries of lines, without their marks
-abbrev pub entries_of : List Line → List Entry
-entries_of ls = map (λ (l : Line). l.entry) ls

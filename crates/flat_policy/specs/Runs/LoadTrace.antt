@@ -80,7 +80,7 @@ tallied y (acts.On c) answer = y
 -- the load so far: the draw's state, the machine, the name that sleeps, and the tally
 pub record LoadState : Type 0 where
   pub draw : ℕ
-  pub game : MachineState
+  pub state : MachineState
   pub kept : Option ℕ
   pub tally : Tally
 
@@ -116,7 +116,7 @@ abbrev pub other_cluster : ℕ → ℕ
 other_cluster c = 1 - c
 
 abbrev pub load_act : LoadState → ℕ → ℕ → ℕ → Option Facts → Act
-load_act st i actor q None = free_act i q (live_count st.game.yard) (other_cluster (home_of load_setup actor)) st.kept
+load_act st i actor q None = free_act i q (live_count st.state.yard) (other_cluster (home_of load_setup actor)) st.kept
 load_act st i actor q (Some t) = busy_act q t st.kept
 
 -- the name that sleeps after a step
@@ -129,24 +129,28 @@ kept_after kept act thread = kept
 abbrev pub load_taken : LoadState → ℕ → Step → LoadState
 load_taken st x step = record {
   draw = x;
-  game = state_after load_setup st.game step;
-  kept = kept_after st.kept step.act (hand_at st.game step.actor).thread;
-  tally = tallied st.tally step.act (reply load_setup st.game step).answer;
+  state = state_after load_setup st.state step;
+  kept = kept_after st.kept step.act (hand_at st.state step.actor).thread;
+  tally = tallied st.tally step.act (reply load_setup st.state step).answer;
 }
 
-abbrev pub load_step_by : LoadState → ℕ → ℕ → ℕ → LoadState
-load_step_by st i x r = load_taken st x (record {
+-- the step number i of the load, by its draw
+abbrev pub step_by_draw : LoadState → ℕ → ℕ → Step
+step_by_draw st i r = record {
   moment = i * 50;
   actor = r % 6;
-  act = load_act st i (r % 6) (r / 6) (hand_at st.game (r % 6)).thread;
-})
+  act = load_act st i (r % 6) (r / 6) (hand_at st.state (r % 6)).thread;
+}
+
+abbrev pub step_of_load : LoadState → ℕ → Step
+step_of_load st i = step_by_draw st i (drawn (next_draw st.draw))
 
 abbrev pub load_step : LoadState → ℕ → LoadState
-load_step st i = load_step_by st i (next_draw st.draw) (drawn (next_draw st.draw))
+load_step st i = load_taken st (next_draw st.draw) (step_of_load st i)
 
 -- the load after so many steps
 abbrev pub load_after : ℕ → ℕ → LoadState
-load_after seed zero = record { draw = seed; game = empty_machine load_setup; kept = None; tally = no_tally }
+load_after seed zero = record { draw = seed; state = empty_machine load_setup; kept = None; tally = no_tally }
 load_after seed (suc n) = load_step (load_after seed n) n
 
 -- how many threads are queued
@@ -172,7 +176,7 @@ summary seed n st =
     ++ summary_line (codes "wake ") st.tally.wakes
     ++ summary_line (codes "end ") st.tally.ends
     ++ summary_line (codes "refresh ") st.tally.refreshes
-    ++ summary_line (codes "queued ") (queued_count st.game)
+    ++ summary_line (codes "queued ") (queued_count st.state)
 
 -- the load's text
 abbrev pub Load : ℕ → ℕ → List ℕ
@@ -181,4 +185,4 @@ Load seed n = summary seed n (load_after seed n)
 -- the makes less the ends and the queued threads are those in hands or asleep: at most seven
 abbrev pub LivesSomewhere : LoadState → Type 0
 LivesSomewhere st =
-    (st.tally.ends + queued_count st.game ≤ st.tally.makes) × (st.tally.makes ≤ st.tally.ends + queued_count st.game + 7)
+    (st.tally.ends + queued_count st.state ≤ st.tally.makes) × (st.tally.makes ≤ st.tally.ends + queued_count st.state + 7)

@@ -1,7 +1,8 @@
 -- The worker rule: which lines an actor's turn appends to its log.
 use Rattle.std.specs.Bool.{MatchBool}
 use Rattle.std.specs.List.{list_any}
-use Rattle.std.specs.Prelude.{Bool, List, None, Option, Some, [], false, filter, find, if◌then◌else◌, map, min, nat_lt, not, option_and_then, suc, true, zero, ℕ, ◌&&◌, ◌*◌, ◌++◌, ◌+◌, ◌-◌, ◌/◌, ◌==◌, ◌^◌, ◌||◌, ◌∷◌, ◌≡◌, ◌⊎◌}
+use Rattle.std.specs.Prelude.{Bool, List, None, Option, Some, [], false, filter, find, if◌then◌else◌, is_some, map, min, nat_lt, not, option_and_then, suc, true, zero, ℕ, ◌&&◌, ◌*◌, ◌++◌, ◌+◌, ◌-◌, ◌/◌, ◌==◌, ◌||◌, ◌∷◌, ◌≡◌, ◌⊎◌}
+use Rattle.sched_base.specs.Limits.{moment_limit}
 use Rattle.sched_base.specs.declared.Act.{Act}
 use Rattle.sched_base.specs.declared.Answer.{Answer}
 use Rattle.sched_base.specs.declared.Bucket.{Bucket}
@@ -52,6 +53,12 @@ stages_from before (run ∷ sleep ∷ rest) = record { target = before + run; sl
 abbrev pub stages : Program → List Stage
 stages p = stages_from 0 p.spans
 
+-- the target of the last stage of some, 0 of none
+abbrev pub last_target : List Stage → ℕ
+last_target [] = 0
+last_target (s ∷ []) = s.target
+last_target (s ∷ t ∷ ss) = last_target (t ∷ ss)
+
 -- the program of a name
 abbrev pub program_of : List Program → ℕ → Option Program
 program_of ps name = find (λ (p : Program). p.name == name) ps
@@ -64,13 +71,13 @@ stage_at p work = find (λ (s : Stage). nat_lt work s.target) (stages p)
 abbrev pub time_for : ℕ → ℕ → ℕ
 time_for rate work = (work * 1000 + (rate - 1)) / rate
 
--- the charge of a run: the quantum of the thread's bucket at the cluster, or the time for what is left, where that is less
+-- the charge of a turn: the quantum of the thread's bucket at the cluster, or the time for what is left, where that is less
 abbrev pub charge_of : SetupParts → ℕ → Facts → Stage → ℕ
 charge_of setup c t s = min (times_for (cluster_times setup c) t.bucket).quantum (time_for (rate_of setup c) (s.target - t.work))
 
--- the moment of a run that begins at a clock
+-- the moment of a charge that begins at a clock
 abbrev pub charge_moment : ℕ → ℕ → ℕ
-charge_moment clock charge = min (clock + charge) (2 ^ 40 - 1)
+charge_moment clock charge = min (clock + charge) (moment_limit - 1)
 
 -- a line has an act
 abbrev pub Does : Act → Line → Type 0
@@ -81,7 +88,7 @@ abbrev pub Answered : Act → Answer → Line → Type 0
 Answered act answer l = (act_of l ≡ act) × (l.entry.answer ≡ answer)
 
 -- placing a thread: the looks that its aim needs in ascending order, the aim, and the entering at the tail of the aimed cluster
-pub record Places (setup : SetupParts) (t : Facts) (ls : List Line) : Type 0 where
+pub record Placing (setup : SetupParts) (t : Facts) (ls : List Line) : Type 0 where
   pub looks : List Line
   pub aimed : Line
   pub enters : Line
@@ -91,26 +98,26 @@ pub record Places (setup : SetupParts) (t : Facts) (ls : List Line) : Type 0 whe
   pub aim_line : Answered acts.Aim (answers.To cluster) aimed
   pub enter_line : Does (acts.Enter cluster false) enters
 
--- after a run of a thread that has come to its stage's target: the end, or the sleep that follows
+-- after a charge that brought a thread to its stage's target: the end, or the sleep that follows
 abbrev pub Rests : Option ℕ → List Line → Type 0
 Rests sleep [] = ⊥
 Rests None (l ∷ []) = Does acts.End l
 Rests (Some span) (l ∷ []) = Does acts.Sleep l × (l.mark ≡ Some span)
 Rests sleep (l ∷ m ∷ ls) = ⊥
 
--- after a run: a placing where work is left in the stage, otherwise the end or a sleep
+-- after a charge: a placing where work is left in the stage, otherwise the end or a sleep
 abbrev pub AfterCharge : SetupParts → Stage → List Line → Option Facts → Type 0
 AfterCharge setup s ls None = ⊥
-AfterCharge setup s ls (Some t) = MatchBool (nat_lt t.work s.target) (Places setup t ls) (Rests s.sleep ls)
+AfterCharge setup s ls (Some t) = MatchBool (nat_lt t.work s.target) (Placing setup t ls) (Rests s.sleep ls)
 
--- the run of a thread in a stage, from a clock: one ran of the charge at its moment, and what follows
+-- the charge of a thread in a stage, from a clock: one ran of the charge at its moment, and what follows
 abbrev pub ChargesStage : SetupParts → ℕ → Facts → ℕ → Stage → List Line → Type 0
 ChargesStage setup c t clock s [] = ⊥
 ChargesStage setup c t clock s (l ∷ ls) =
     Does (acts.Ran (charge_of setup c t s)) l × (moment_of l ≡ charge_moment clock (charge_of setup c t s))
     × AfterCharge setup s ls l.entry.thread
 
--- the run of a thread that a line at a clock took
+-- the charge of a thread in the stage that it is in
 abbrev pub ChargesAt : SetupParts → ℕ → Facts → ℕ → Option Stage → List Line → Type 0
 ChargesAt setup c t clock None ls = ⊥
 ChargesAt setup c t clock (Some s) ls = ChargesStage setup c t clock s ls
@@ -118,13 +125,13 @@ ChargesAt setup c t clock (Some s) ls = ChargesStage setup c t clock s ls
 abbrev pub stage_of : List Program → Facts → Option Stage
 stage_of ps t = option_and_then (λ (p : Program). stage_at p t.work) (program_of ps t.name)
 
-abbrev pub Runs : RunParts → ℕ → Facts → ℕ → List Line → Type 0
-Runs run c t clock ls = ChargesAt run.setup c t clock (stage_of run.programs t) ls
+abbrev pub ChargesThread : RunParts → ℕ → Facts → ℕ → List Line → Type 0
+ChargesThread run c t clock ls = ChargesAt run.setup c t clock (stage_of run.programs t) ls
 
 -- the placing of a thread that a line took
 abbrev pub PlacesThread : SetupParts → List Line → Option Facts → Type 0
 PlacesThread setup ls None = ⊥
-PlacesThread setup ls (Some t) = Places setup t ls
+PlacesThread setup ls (Some t) = Placing setup t ls
 
 -- the ending of a turn that got no thread: a wake and a placing, or that none is blocked
 abbrev pub WakesAndPlaces : SetupParts → List Line → Type 0
@@ -142,24 +149,24 @@ abbrev pub neighbours : SetupParts → ℕ → List ℕ
 neighbours setup c =
     filter (λ j. not (j == c) && (migrates setup j c || not (steal_mask setup j c == 0))) (numbers_below (cluster_count setup))
 
--- the run of the thread that a line took, if it took one; otherwise something else
+-- the charge of the thread that a line took, if it took one; otherwise something else
 abbrev pub ChargesOr : RunParts → ℕ → Line → List Line → Type 0 → Option Facts → Type 0
 ChargesOr run c l ls Otherwise None = Otherwise
-ChargesOr run c l ls Otherwise (Some t) = Runs run c t (moment_of l) ls
+ChargesOr run c l ls Otherwise (Some t) = ChargesThread run c t (moment_of l) ls
 
--- the offers of neighbours in ascending order, up to the first that got a thread, which is run; where none did, the ending
-abbrev pub Offers : RunParts → ℕ → List ℕ → List Line → Type 0
-Offers run c [] ls = EndsWithout run.setup ls
-Offers run c (j ∷ js) [] = ⊥
-Offers run c (j ∷ js) (l ∷ ls) = Does (acts.Offer j) l × ChargesOr run c l ls (Offers run c js ls) l.entry.thread
+-- the offers of neighbours in ascending order, up to the first that got a thread, which is charged; where none did, the ending
+abbrev pub OffersInTurn : RunParts → ℕ → List ℕ → List Line → Type 0
+OffersInTurn run c [] ls = EndsWithout run.setup ls
+OffersInTurn run c (j ∷ js) [] = ⊥
+OffersInTurn run c (j ∷ js) (l ∷ ls) = Does (acts.Offer j) l × ChargesOr run c l ls (OffersInTurn run c js ls) l.entry.thread
 
 -- what follows a select that got no thread: the offers where the queue was empty; no offer where the home is off
 abbrev pub AfterNone : RunParts → ℕ → List Line → Answer → Type 0
-AfterNone run c ls answers.Empty = Offers run c (neighbours run.setup c) ls
+AfterNone run c ls answers.Empty = OffersInTurn run c (neighbours run.setup c) ls
 AfterNone run c ls answers.Off = EndsWithout run.setup ls
 AfterNone run c ls _ = ⊥
 
--- a select and what follows: the run of its thread where it got one
+-- a select and what follows: the charge of its thread where it got one
 abbrev pub SelectsAndGoesOn : RunParts → ℕ → Line → List Line → Type 0
 SelectsAndGoesOn run c l ls = Does acts.Select l × ChargesOr run c l ls (AfterNone run c ls l.entry.answer) l.entry.thread
 
@@ -198,15 +205,20 @@ TurnWith run c (Some p) (l ∷ ls) = Does (power_act p.on c) l × TurnSteps run 
 abbrev pub Turn : RunParts → ℕ → ℕ → List Line → Type 0
 Turn run a k ls = TurnWith run (home_of run.setup a) (power_for run a k) ls
 
--- a turn is idle where it ends with the yard's answer that none is blocked, with no thread taken before
-abbrev pub ends_idle : Answer → Bool
-ends_idle (answers.Left zero) = true
-ends_idle _ = false
+-- whether a line is the yard's answer that no thread is blocked
+abbrev pub tells_none_blocked : Act → Answer → Bool
+tells_none_blocked acts.Blocked (answers.Left zero) = true
+tells_none_blocked _ _ = false
 
-abbrev pub is_idle_by : List Line → Bool
-is_idle_by [] = false
-is_idle_by (l ∷ []) = ends_idle l.entry.answer
-is_idle_by (l ∷ m ∷ ls) = is_idle_by (m ∷ ls)
+-- whether the last line of a turn is that answer
+abbrev pub ends_idle : List Line → Bool
+ends_idle [] = false
+ends_idle (l ∷ []) = tells_none_blocked (act_of l) l.entry.answer
+ends_idle (l ∷ m ∷ ls) = ends_idle (m ∷ ls)
+
+-- whether a turn is idle: it ends with that answer, and no line of it moved a thread
+abbrev pub is_idle : List Line → Bool
+is_idle ls = ends_idle ls && not (list_any (λ (l : Line). is_some l.entry.thread) ls)
 
 -- turns from a number on, so many, one after another
 abbrev pub Turns : RunParts → ℕ → ℕ → ℕ → List Line → Type 0

@@ -1,5 +1,6 @@
 -- Answers as text.
 use Rattle.std.specs.Prelude.{Bool, List, Ok, [], codes, decimal, ℕ, ◌∷◌}
+use Rattle.sched_base.specs.Limits.{most_base}
 use Rattle.sched_base.specs.declared.Answer.{Answer}
 use Rattle.sched_base.specs.declared.Place.{Place}
 use Rattle.flat_policy.specs.Texts.Pieces.{Reading, Worded, actor_at, cluster_at, followed_by, made_of, most_of_32, most_of_64, next_piece, number_within, same_text, spaced, word_among, worded}
@@ -105,7 +106,7 @@ refusal_at ps = followed_by (next_piece (word_among refusal_words) ps) (λ argum
 abbrev pub answer_words : List (Worded AnswerReading)
 answer_words =
     worded (codes "ok") (lone_answer answers.Yes)
-    ∷ worded (codes "pri") (counted (λ p. answers.Pri p) 127)
+    ∷ worded (codes "pri") (counted (λ p. answers.Pri p) most_base)
     ∷ worded (codes "got") (counted (λ n. answers.Got n) most_of_32)
     ∷ worded (codes "-") (lone_answer answers.Empty)
     ∷ worded (codes "off") (lone_answer answers.Off)

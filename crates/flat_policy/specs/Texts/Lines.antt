@@ -1,5 +1,6 @@
 -- The lines of a trace, and of a run.
 use Rattle.std.specs.Prelude.{Bool, Err, List, None, Ok, Result, Some, [], codes, decimal, false, if◌then◌else◌, length, map, nat_lt, suc, true, zero, ℕ, ⊤, ◌++◌, ◌==◌, ◌∷◌}
+use Rattle.sched_base.specs.Limits.{line_bytes, most_span}
 use Rattle.sched_base.specs.declared.Answer.{Answer}
 use Rattle.sched_base.specs.declared.Entry.{Entry}
 use Rattle.sched_base.specs.declared.Step.{Step}
@@ -27,7 +28,7 @@ read_given ps = and_then (step_at ps) (λ s. given_at s.0 s.1)
 
 -- a line of a trace
 abbrev pub line_limit : ℕ
-line_limit = 256
+line_limit = line_bytes
 
 abbrev pub within_limit : {A : Type 0} → List ℕ → Result A LineFault → Result A LineFault
 within_limit line r = if nat_lt line_limit (length line) then Err line_faults.Long else r
@@ -48,7 +49,7 @@ entry_text e = answered_text e.step e.answer
 -- the spans of a program: an odd number of them, 1 to 15
 abbrev pub span_within : List ℕ → Result ℕ LineFault
 span_within p =
-    and_then (number_within 10000000 p) (λ n. if n == 0 then Err line_faults.Range else Ok n)
+    and_then (number_within most_span p) (λ n. if n == 0 then Err line_faults.Range else Ok n)
 
 -- the spans that follow, so many at the most: another pair, or the end
 abbrev pub span_pairs : ℕ → List (List ℕ) → Result (List ℕ) LineFault

@@ -2,6 +2,7 @@
 use Rattle.std.specs.List.{list_any}
 use Rattle.std.specs.Option.{option_map_or}
 use Rattle.std.specs.Prelude.{Bool, Err, List, None, Ok, Option, Result, Some, [], false, flat_map, if◌then◌else◌, length, nat_le, nat_lt, not, suc, sum_by, true, ℕ, ◌&&◌, ◌++◌, ◌+◌, ◌==◌, ◌∷◌}
+use Rattle.sched_base.specs.Limits.{most_run_work, setup_bytes}
 use Rattle.sched_base.specs.declared.Answer.{Answer}
 use Rattle.sched_base.specs.declared.Entry.{Entry}
 use Rattle.flat_policy.specs.declared.texts.Given.{Given}
@@ -101,7 +102,7 @@ judge_lines setup stop rest number (l ∷ ls) g =
 
 -- the first line
 abbrev pub setup_limit : ℕ
-setup_limit = 65536
+setup_limit = setup_bytes
 
 abbrev pub read_setup_line : List ℕ → Result SetupParts SetupFault
 read_setup_line line = if nat_lt setup_limit (length line) then Err setup_faults.Long else read_setup_text line
@@ -157,7 +158,7 @@ program_fits setup p = nat_lt p.group (group_count setup) && option_map_or (λ c
 abbrev pub program_is_new : SetupParts → RunLines → Program → Bool
 program_is_new setup so p =
     not (list_any (λ (q : Program). q.name == p.name) so.programs)
-    && (nat_lt (length so.programs) setup.threads && nat_le (run_sum so.programs + run_spans p.spans) 10000000)
+    && (nat_lt (length so.programs) setup.threads && nat_le (run_sum so.programs + run_spans p.spans) most_run_work)
 
 -- whether they leave room for a power
 abbrev pub power_is_new : SetupParts → RunLines → PowerAt → Bool

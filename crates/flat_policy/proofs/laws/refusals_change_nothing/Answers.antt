@@ -6,5 +6,5 @@ pub returns : goal.returns
 returns c = λ setup g step a h. record {
   answer = ap (λ r. (outcome_by setup g step r).answer) h;
   thread = ap (λ r. (outcome_by setup g step r).thread) h;
-  game = ap (λ r. (outcome_by setup g step r).game) h;
+  state = ap (λ r. (outcome_by setup g step r).state) h;
 }
