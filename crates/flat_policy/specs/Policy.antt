@@ -16,3 +16,4 @@ pub mod Aim
 pub mod Refresh
 pub mod ClusterSteps
 pub mod Machine
+pub mod Clusters
