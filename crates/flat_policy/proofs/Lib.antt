@@ -18,6 +18,7 @@ pub mod Chosen
 pub mod ChosenLane
 pub mod Enters
 pub mod Entries
+pub mod Gains
 pub mod Greatest
 pub mod HandMoves
 pub mod InLane
@@ -25,6 +26,7 @@ pub mod Kept
 pub mod KeptLanes
 pub mod Leaves
 pub mod Lexical
+pub mod MaskedOffers
 pub mod Members
 pub mod Moved
 pub mod Offers
@@ -41,6 +43,7 @@ pub mod SetupLaws
 pub mod SoundParts
 pub mod StepsKeep
 pub mod Turns
+pub mod UnitPriorities
 pub mod Units
 pub mod Wholes
 pub mod Windows
