@@ -42,6 +42,7 @@ pub mod SoundParts
 pub mod StepsKeep
 pub mod Turns
 pub mod Units
+pub mod Usage
 pub mod Wholes
 pub mod Windows
 pub mod YardMoves
