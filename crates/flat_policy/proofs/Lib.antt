@@ -34,6 +34,7 @@ pub mod PickIsOne
 pub mod Picks
 pub mod Placed
 pub mod Precedes
+pub mod Reaches
 pub mod Refreshed
 pub mod Refreshes
 pub mod Runs
