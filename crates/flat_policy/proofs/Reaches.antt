@@ -63,7 +63,7 @@ selected_by_reaches ts now s (Some c) (Some e) = windows_reach ts now c.kind c.l
 selected_by_reaches ts now s (Some c) None = weaker now 0 0 1 s (touched now s) (omega arith) (touched_reaches now s)
 selected_by_reaches ts now s None picked = weaker now 0 0 1 s (touched now s) (omega arith) (touched_reaches now s)
 
-selected_reaches : (ts : List Times) (now : ℕ) (s : Flat) → Reaches now 0 1 s (selected ts now s)
+pub selected_reaches : (ts : List Times) (now : ℕ) (s : Flat) → Reaches now 0 1 s (selected ts now s)
 selected_reaches ts now s =
     let r = selected_by_reaches ts now (expired ts s now) (chosen ts (expired ts s now)) (pick ts now s) in
     record { last = r.last; rises = record { arrival = r.rises.arrival; turn = r.rises.turn } }
