@@ -61,7 +61,7 @@ expired_parts groups ts s now p = record {
   entries_fit = p.entries_fit;
   turns_fit = p.turns_fit;
   turns_stand = p.turns_stand;
-  spans_long = p.spans_long;
+  spans_fit = p.spans_fit;
   ten = map_keeps_lanes (expired_window ts now) (expired_keeps ts now) s.lanes ∙ p.ten;
 }
 

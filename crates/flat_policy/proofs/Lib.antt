@@ -36,6 +36,7 @@ pub mod PickIsOne
 pub mod Picks
 pub mod Placed
 pub mod Precedes
+pub mod Reaches
 pub mod Refreshed
 pub mod Refreshes
 pub mod Runs
@@ -45,6 +46,7 @@ pub mod StepsKeep
 pub mod Turns
 pub mod UnitPriorities
 pub mod Units
+pub mod Usage
 pub mod Wholes
 pub mod Windows
 pub mod YardMoves

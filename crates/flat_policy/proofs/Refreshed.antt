@@ -27,7 +27,7 @@ prices_fit groups s now p = record {
   entries_fit = map_fits groups s.next_arrival (repriced s now) (repriced_keeps s now) s.entries p.entries_fit;
   turns_fit = p.turns_fit;
   turns_stand = λ k gk. p.turns_stand k gk ∙ sym (any_of_map (in_clutch k) (repriced s now) s.entries (repriced_clutch s now k));
-  spans_long = p.spans_long;
+  spans_fit = p.spans_fit;
   ten = p.ten;
 }
 
