@@ -9,6 +9,7 @@ mod SetupTimes
 pub mod Accepted
 pub mod After
 pub mod Aims
+pub mod Alive
 pub mod Ascending
 pub mod Buckets
 pub mod ByMembers
@@ -20,6 +21,7 @@ pub mod Enters
 pub mod Entries
 pub mod Greatest
 pub mod HandMoves
+pub mod Histories
 pub mod InLane
 pub mod Kept
 pub mod KeptLanes
@@ -40,8 +42,10 @@ pub mod Runs
 pub mod SetupLaws
 pub mod SoundParts
 pub mod StepsKeep
+pub mod Takers
 pub mod Turns
 pub mod Units
 pub mod Wholes
+pub mod WholePlaces
 pub mod Windows
 pub mod YardMoves
