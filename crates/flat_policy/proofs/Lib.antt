@@ -9,6 +9,7 @@ mod SetupTimes
 pub mod Accepted
 pub mod After
 pub mod Aims
+pub mod Alive
 pub mod Ascending
 pub mod Buckets
 pub mod ByMembers
@@ -21,6 +22,7 @@ pub mod Entries
 pub mod Gains
 pub mod Greatest
 pub mod HandMoves
+pub mod Histories
 pub mod InLane
 pub mod Kept
 pub mod KeptLanes
@@ -43,10 +45,12 @@ pub mod Runs
 pub mod SetupLaws
 pub mod SoundParts
 pub mod StepsKeep
+pub mod Takers
 pub mod Turns
 pub mod UnitPriorities
 pub mod Units
 pub mod Usage
 pub mod Wholes
+pub mod WholePlaces
 pub mod Windows
 pub mod YardMoves

@@ -1,8 +1,8 @@
 //! The setup: the clusters, the edges between them, the groups and the times.
 
-ghost use Rattle.std.specs.Prelude.{◌≡◌, ◌≤◌, ◌<◌, length, map, slice_get, sum_by};
+ghost use Rattle.std.specs.Prelude.{IsTrue, ◌≡◌, ◌≤◌, ◌<◌, length, map, slice_get, sum_by};
 ghost use Rattle.flat_policy.specs.Policy.Setup.{actor_count, cluster_count, cluster_times, cpus_of, group_count, home_among, home_of, preferred_cluster, rate_of, times_for};
-ghost use Rattle.flat_policy.specs.Policy.Machine.{fits_act, fits_step};
+ghost use Rattle.flat_policy.specs.Policy.Machine.{fits_act, fits_step, numbers_fit};
 ghost use Rattle.flat_policy.specs.Policy.BuiltSetups.{IsEdge, IsSetup, IsTimes};
 ghost use Rattle.flat_policy.specs.Representation.SetupInside.{parts_of_size};
 
@@ -248,8 +248,10 @@ impl Setup {
         s.moment < 1 << 40 && s.actor < self.actors() && self.fits_act(s.act)
     }
 
+    /// The names and spans of an act fit by their type.
     fn fits_act(&self, act: Act) -> bool
-        ensures { result ≡ fits_act self.now act }
+        ensures fits { result ≡ fits_act self.now act }
+        ensures numbers { IsTrue (numbers_fit act) }
     {
         match act {
             Act::Make {
