@@ -22,7 +22,7 @@ pub mod Entries
 pub mod Gains
 pub mod Greatest
 pub mod HandMoves
-pub mod Histories
+pub mod Prefixes
 pub mod InLane
 pub mod Kept
 pub mod KeptLanes
