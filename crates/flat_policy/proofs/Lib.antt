@@ -20,6 +20,8 @@ pub mod Enters
 pub mod Entries
 pub mod Greatest
 pub mod HandMoves
+pub mod Happens
+pub mod Histories
 pub mod InLane
 pub mod Kept
 pub mod KeptLanes
@@ -36,6 +38,7 @@ pub mod Placed
 pub mod Precedes
 pub mod Reaches
 pub mod Refreshed
+pub mod RefreshedBuckets
 pub mod Refreshes
 pub mod Runs
 pub mod SetupLaws
