@@ -1,15 +1,14 @@
 -- A refresh goes bucket by bucket, and the clutch buckets of UI take no turn.
-use Rattle.std.proofs.Common.{◌≡◌, ℕ, ◌+◌, ◌==◌, Bool, true, List, [], ◌∷◌, ◌++◌, filter, fold, flat_map, length, map, refl, sym, ap, ap₂, ◌∙◌, inl, inr, eq-eqb}
+use Rattle.std.proofs.Common.{◌≡◌, ℕ, ◌+◌, ◌==◌, true, List, [], ◌∷◌, filter, fold, flat_map, length, map, refl, sym, ap, ap₂, ◌∙◌, inl, inr, eq-eqb}
 use Rattle.std.proofs.lemmas.Bool.{cases_Bool, cond-true, cond-false}
 use Rattle.std.proofs.lemmas.List.Sums.{fold-append}
-use Rattle.sched_base.specs.declared.Bucket.{Bucket}
 use Rattle.sched_base.specs.declared.Bucket.TheVariants.{Bg, Df, Fg, Ini, Ui, Ut}
 use Rattle.sched_base.specs.declared.Facts.{Facts}
 use Rattle.flat_policy.specs.Laws.Refreshing.{RefreshesByBucket, with_turns_of}
 use Rattle.flat_policy.specs.Policy.Moves.{with_next_turn}
 use Rattle.flat_policy.specs.Policy.Precedence.{clutch_priority, greatest_pri}
 use Rattle.flat_policy.specs.Policy.Queue.{Clutch, Flat, Queued, in_clutch, spans_of, unit_entries}
-use Rattle.flat_policy.specs.Policy.Refresh.{clutches_of, is_ui, refreshed, repriced, turn_on_refresh, with_new_prices}
+use Rattle.flat_policy.specs.Policy.Refresh.{clutches_of, is_ui, repriced, turn_on_refresh, with_new_prices}
 use Rattle.flat_policy.specs.Policy.Setup.{all_buckets, numbers_below}
 use Rattle.flat_policy.specs.Policy.Usage.{decay, priority, score}
 use Rattle.flat_policy.proofs.Buckets.{in_clutch_parts}
