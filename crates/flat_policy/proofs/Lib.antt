@@ -23,6 +23,8 @@ pub mod Gains
 pub mod Greatest
 pub mod HandMoves
 pub mod Prefixes
+pub mod Happens
+pub mod Histories
 pub mod InLane
 pub mod Kept
 pub mod KeptLanes
@@ -40,6 +42,7 @@ pub mod Placed
 pub mod Precedes
 pub mod Reaches
 pub mod Refreshed
+pub mod RefreshedBuckets
 pub mod Refreshes
 pub mod Runs
 pub mod SetupLaws

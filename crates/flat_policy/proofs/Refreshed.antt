@@ -13,7 +13,7 @@ use Rattle.flat_policy.proofs.Parts.{PartsOf, map_fits}
 use Rattle.flat_policy.proofs.Refreshes.{clutch_grouped, fold_keeps, repriced_facts, repriced_keeps}
 use Rattle.flat_policy.proofs.Wholes.{but_one, whole_with_next}
 
-repriced_clutch : (s : Flat) (now : ℕ) (k : Clutch) (e : Queued) → in_clutch k (repriced s now e) ≡ in_clutch k e
+pub repriced_clutch : (s : Flat) (now : ℕ) (k : Clutch) (e : Queued) → in_clutch k (repriced s now e) ≡ in_clutch k e
 repriced_clutch s now k e =
     repriced_facts s now e (λ f. in_clutch k f ≡ in_clutch k e) refl
     (λ t pri h. ap (λ (u : Facts). in_clutch k (record e { facts = u; pri = pri })) h)

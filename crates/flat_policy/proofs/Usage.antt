@@ -1,9 +1,9 @@
 -- Bounds on prices, on usage that decays, and on the numbers of use of a clutch bucket.
-use Rattle.std.proofs.Common.{◌≡◌, ℕ, suc, zero, ◌+◌, ◌-◌, ◌*◌, ◌/◌, ◌<◌, ◌≤◌, ◌^◌, min, nat_lt, true, false, arith}
+use Rattle.std.proofs.Common.{ℕ, suc, zero, ◌+◌, ◌-◌, ◌*◌, ◌/◌, ◌<◌, ◌≤◌, ◌^◌, min, nat_lt, arith}
 use Rattle.std.proofs.lemmas.Bool.{cond_both, ltb-false}
 use Rattle.sched_base.specs.declared.Bucket.{Bucket}
 use Rattle.sched_base.specs.declared.Bucket.TheVariants.{Bg, Df, Fg, Ini, Ui, Ut}
-use Rattle.flat_policy.specs.Policy.Usage.{Spans, decay, decayed_by, lowered, priority, ticks, usage_step, with_spans}
+use Rattle.flat_policy.specs.Policy.Usage.{Spans, decay, decayed_by, priority, ticks, usage_step, with_spans}
 use Rattle.flat_policy.specs.Policy.WellFormed.{SmallSpans}
 
 less_below : (base loss : ℕ) → base - min base loss ≤ base
