@@ -139,6 +139,21 @@ mod tests {
     }
 
     #[test]
+    fn grows_as_it_is_filled(rt: HostRuntime) -> Result<(), Fail> {
+        let mut journal = Journal::new(rt.alloc());
+        for moment in 0..5000 {
+            journal.reserve(1)?;
+            journal.push(line(moment, Some(moment as u32)));
+        }
+        journal.reserve(1 << 20)?;
+        assert_eq!(rt; journal.len(), 5000);
+        for i in 0..journal.len() {
+            assert_eq!(rt; journal.line(i), line(i, Some(i as u32)));
+        }
+        Ok(())
+    }
+
+    #[test]
     fn no_room_for_2_to_the_40(rt: HostRuntime) -> Result<(), Fail> {
         let mut journal = Journal::new(rt.alloc());
         journal.reserve(1)?;
