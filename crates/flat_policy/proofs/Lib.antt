@@ -6,6 +6,7 @@ mod SetupParts
 mod SetupRows
 mod SetupTimeRows
 mod SetupTimes
+mod SixTimes
 pub mod Accepted
 pub mod After
 pub mod Aims
