@@ -27,6 +27,7 @@ pub mod Kept
 pub mod KeptLanes
 pub mod Leaves
 pub mod Lexical
+pub mod Loads
 pub mod Members
 pub mod Moved
 pub mod Offers
@@ -44,6 +45,7 @@ pub mod SoundParts
 pub mod StepsKeep
 pub mod Takers
 pub mod Turns
+pub mod Unbound
 pub mod Units
 pub mod Wholes
 pub mod WholePlaces
