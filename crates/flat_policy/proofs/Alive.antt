@@ -10,7 +10,7 @@ use Rattle.flat_policy.specs.Laws.Sound.{Sound}
 use Rattle.flat_policy.specs.Policy.Machine.{GRun, MachineState, RunsFrom, Yard, empty_machine, expected_count, live_count, place_count, state_after}
 use Rattle.flat_policy.specs.Policy.Setup.{SetupParts}
 use Rattle.flat_policy.proofs.Accepted.{step_goes}
-use Rattle.flat_policy.proofs.Histories.{counted}
+use Rattle.flat_policy.proofs.PlaceOf.{counted}
 use Rattle.flat_policy.proofs.Placed.{sum_by_alike}
 use Rattle.flat_policy.proofs.Runs.{empty_sound, reached}
 use Rattle.flat_policy.proofs.SoundParts.{Goes}

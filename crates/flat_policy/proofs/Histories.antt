@@ -1,124 +1,81 @@
--- Histories of the machine in two parts, and in which place a name stands.
-use Rattle.std.proofs.Common.{◌≡◌, ◌⊎◌, ℕ, suc, ◌||◌, ◌+◌, ◌≤◌, ◌<◌, ◌==◌, Bool, true, false, List, [], ◌∷◌, ◌++◌, count_by, find, get_or, length, sum_by, Option, Some, None, is_some, unwrap_or, refl, sym, ap, ap₂, ◌∙◌, subst, inl, inr, arith, cond}
-use Rattle.std.specs.List.{list_any}
-use Rattle.std.proofs.lemmas.Bool.{cases_Bool, cond-false, cond-true}
-use Rattle.std.proofs.lemmas.List.Sums.{get_or-le-sum_by, sum_by-cons}
-use Rattle.sched_base.specs.declared.Entry.{Entry}
+-- Every history of a cluster leaves its queue well-formed.
+use Rattle.std.proofs.Common.{◌≡◌, ℕ, ◌==◌, nat_lt, ◌&&◌, not, Bool, true, false, List, [], ◌∷◌, length, Option, Some, option_and_then, sym, subst}
+use Rattle.std.specs.Option.{option_map}
+use Rattle.std.proofs.lemmas.Bool.{and_parts, ltb-true}
+use Rattle.std.proofs.lemmas.Option.{none-some}
+use Rattle.sched_base.specs.Limits.{most_threads}
+use Rattle.sched_base.specs.declared.Act.{Act}
+use Rattle.sched_base.specs.declared.Act.TheVariants as acts
+use Rattle.sched_base.specs.declared.Bucket.{Bucket}
 use Rattle.sched_base.specs.declared.Facts.{Facts}
-use Rattle.sched_base.specs.declared.Place.{Place}
-use Rattle.sched_base.specs.declared.Place.TheVariants as places
-use Rattle.flat_policy.specs.Policy.ClusterSteps.{named_entry}
-use Rattle.flat_policy.specs.Policy.Machine.{Hand, MachineState, RunsFrom, Sleeper, Yard, count_at, count_held, count_in_yard, count_queued, hand_at, flat_at, held_by, holds, in_yard, is_blocked, no_hand, place_count, place_of, queued_in, state_after}
+use Rattle.flat_policy.specs.declared.journal.Line.{Line}
+use Rattle.flat_policy.specs.Policy.Aim.{may_enter}
+use Rattle.flat_policy.specs.Policy.ClusterSteps.{Event, enter_event, look_event, named_entry, offer_event, power_event, pull_event, refresh_event, select_event}
 use Rattle.flat_policy.specs.Policy.Queue.{Flat, Queued, empty_flat}
-use Rattle.flat_policy.specs.Policy.Setup.{SetupParts}
+use Rattle.flat_policy.specs.Policy.Setup.{SetupParts, group_count, home_of}
+use Rattle.flat_policy.specs.Policy.WellFormed.{WellFormed}
+use Rattle.flat_policy.specs.Runs.Histories.{CRun, CRunFrom, CStep, EntersFitting, act_of, actor_of, bucket_of_index, entering, event_by, flat_after, moment_of}
+use Rattle.flat_policy.proofs.Happens.{and_then_gives, cond_gives, map_gives, where_true_gives}
+use Rattle.flat_policy.proofs.Members.{find_finds}
+use Rattle.flat_policy.proofs.StepsKeep.{empty_fits, steps_keep}
 
--- a history in two parts goes by a state between them
-pub runs_in_parts : (setup : SetupParts) (g : MachineState) (front back : List Entry) (end : MachineState) → RunsFrom setup g (front ++ back) end
-    → (between : MachineState) × RunsFrom setup g front between × RunsFrom setup between back end
-runs_in_parts setup g [] back end run = (g, refl, run)
-runs_in_parts setup g (e ∷ es) back end run =
-    let rest = runs_in_parts setup (state_after setup g e.step) es back end run.2 in
-    (rest.0, (run.0, run.1, rest.1), rest.2)
+-- the queue of an event is well-formed
+abbrev Formed : SetupParts → Event → Type 0
+Formed setup e = WellFormed (group_count setup) e.flat
 
--- members that pass a test are counted where there are some, and found
-pub counted : {X : Type 0} (p : X → Bool) (xs : List X) → ((list_any p xs ≡ true) × (1 ≤ count_by p xs)) ⊎ ((list_any p xs ≡ false) × (count_by p xs ≡ 0))
-counted p [] = inr (refl, refl)
-counted p (x ∷ xs) =
-    elim (cases_Bool (p x)) [
-      | inl e ↦ inl (ap (λ b. b || list_any p xs) e, omega (arith, sum_by-cons (λ y. cond (p y) 1 0) x xs, ap {B = ℕ} (λ b. cond b 1 0) e))
-      | inr e ↦ elim (counted p xs) [
-        | inl some ↦ inl (ap (λ b. b || list_any p xs) e ∙ some.0, omega (arith, sum_by-cons (λ y. cond (p y) 1 0) x xs, some.1))
-        | inr none ↦ inr (ap (λ b. b || list_any p xs) e ∙ none.0, omega (arith, sum_by-cons (λ y. cond (p y) 1 0) x xs, ap {B = ℕ} (λ b. cond b 1 0) e, none.1))
-      ]
-    ]
+enter_formed : (setup : SetupParts) (c : ℕ) (s : Flat) (head : Bool) (now at : ℕ) (o : Option Facts) (event : Event) → WellFormed (group_count setup) s → EntersFitting setup (acts.Enter at head) o → option_and_then (entering setup c s head now) o ≡ Some event → Formed setup event
+enter_formed setup c s head now at o event w fitting h =
+    let t = and_then_gives (entering setup c s head now) o event h in
+    let parts = where_true_gives (nat_lt (length s.entries) most_threads && may_enter setup t.0 c) (enter_event setup c t.0 head now s) event t.2 in
+    let room = and_parts (nat_lt (length s.entries) most_threads) (may_enter setup t.0 c) parts.0 in
+    subst (Formed setup) parts.1
+    ((steps_keep setup s w).entering c t.0 head now (ltb-true (length s.entries) most_threads room.0) (subst (EntersFitting setup (acts.Enter at head)) t.1 fitting))
 
-pub found_counted : {X : Type 0} (p : X → Bool) (xs : List X) → is_some (find p xs) ≡ list_any p xs
-found_counted p [] = refl
-found_counted p (x ∷ xs) =
-    elim (cases_Bool (p x)) [
-      | inl e ↦ ap is_some (cond-true (p x) (Some x) (find p xs) e) ∙ sym (ap (λ b. b || list_any p xs) e)
-      | inr e ↦ ap is_some (cond-false (p x) (Some x) (find p xs) e) ∙ (found_counted p xs ∙ sym (ap (λ b. b || list_any p xs) e))
-    ]
+event_formed : (setup : SetupParts) (c : ℕ) (s : Flat) (l : Line) (event : Event) → WellFormed (group_count setup) s → (act : Act) → EntersFitting setup act l.entry.thread → event_by setup c s l act ≡ Some event → Formed setup event
+event_formed setup c s l event w (acts.Make name group bucket base bound) fitting h = absurd (none-some event h)
+event_formed setup c s l event w (acts.Enter at head) fitting h =
+    enter_formed setup c s head (moment_of l) at l.entry.thread event w fitting
+    (cond_gives (at == c) (option_and_then (entering setup c s head (moment_of l)) l.entry.thread) event h).1
+event_formed setup c s l event w acts.Select fitting h =
+    subst (Formed setup) (where_true_gives (home_of setup (actor_of l) == c) (select_event setup c (moment_of l) s) event h).1
+    ((steps_keep setup s w).selecting c (moment_of l))
+event_formed setup c s l event w (acts.Offer at) fitting h =
+    let home : ℕ = home_of setup (actor_of l) in
+    subst (Formed setup) (where_true_gives ((at == c) && not (home == c)) (offer_event setup c home (moment_of l) s) event h).1
+    ((steps_keep setup s w).offering c home (moment_of l))
+event_formed setup c s l event w (acts.Pull name) fitting h =
+    let pulling : Queued → Event = λ e. pull_event e (moment_of l) s in
+    let e = map_gives pulling (named_entry s name) event (cond_gives (home_of setup (actor_of l) == c) (option_map pulling (named_entry s name)) event h).1 in
+    subst (Formed setup) e.2 ((steps_keep setup s w).pulling e.0 (moment_of l) (find_finds (λ (q : Queued). q.facts.name == name) s.entries e.0 e.1).0)
+event_formed setup c s l event w (acts.Look at) fitting h =
+    let looking : Bucket → Event = λ b. look_event setup c b (moment_of l) s in
+    let o : Option Bucket = option_and_then bucket_of_index l.mark in
+    let b = map_gives looking o event (cond_gives (at == c) (option_map looking o) event h).1 in
+    subst (Formed setup) b.2 ((steps_keep setup s w).looking c b.0 (moment_of l))
+event_formed setup c s l event w acts.Aim fitting h = absurd (none-some event h)
+event_formed setup c s l event w (acts.Ran us) fitting h = absurd (none-some event h)
+event_formed setup c s l event w acts.Sleep fitting h = absurd (none-some event h)
+event_formed setup c s l event w (acts.Wake name) fitting h = absurd (none-some event h)
+event_formed setup c s l event w acts.End fitting h = absurd (none-some event h)
+event_formed setup c s l event w acts.Blocked fitting h = absurd (none-some event h)
+event_formed setup c s l event w acts.Refresh fitting h =
+    subst (Formed setup) (where_true_gives (home_of setup (actor_of l) == c) (refresh_event setup (moment_of l) s) event h).1
+    ((steps_keep setup s w).refreshing (moment_of l))
+event_formed setup c s l event w (acts.Off at) fitting h =
+    subst (Formed setup) (where_true_gives (at == c) (power_event false (moment_of l) s) event h).1
+    ((steps_keep setup s w).powering false (moment_of l))
+event_formed setup c s l event w (acts.On at) fitting h =
+    subst (Formed setup) (where_true_gives (at == c) (power_event true (moment_of l) s) event h).1
+    ((steps_keep setup s w).powering true (moment_of l))
 
--- a name is told of the queues by the first that has it, or none has it
-abbrev InQueues : List Flat → ℕ → ℕ → Type 0
-InQueues ss c name =
-    ((queued_in ss c name ≡ None) × (sum_by (count_queued name) ss ≡ 0))
-    ⊎ ((k : ℕ) × (n : ℕ) × (n ≡ c + k) × (k < length ss) × (queued_in ss c name ≡ Some (places.Queue n)) × (1 ≤ count_queued name (get_or ss k (empty_flat 0))))
+pub step_formed : (setup : SetupParts) (c : ℕ) (s : Flat) (l : Line) (next : Flat) → WellFormed (group_count setup) s → CStep setup c s l next → WellFormed (group_count setup) next
+step_formed setup c s l next w step =
+    subst (WellFormed (group_count setup)) (sym step.leads) (event_formed setup c s l step.event w (act_of l) step.entering step.happens)
 
-queue_of : (ss : List Flat) (c name : ℕ) → InQueues ss c name
-queue_of [] c name = inl (refl, refl)
-queue_of (s ∷ ss) c name =
-    elim (counted (λ (e : Queued). e.facts.name == name) s.entries) [
-      | inl some ↦ inr (0, c, omega arith, omega arith,
-          cond-true (is_some (named_entry s name)) (Some (places.Queue c)) (queued_in ss (c + 1) name) (found_counted (λ (e : Queued). e.facts.name == name) s.entries ∙ some.0),
-          some.1)
-      | inr none ↦ (
-          let past : queued_in (s ∷ ss) c name ≡ queued_in ss (c + 1) name =
-          cond-false (is_some (named_entry s name)) (Some (places.Queue c)) (queued_in ss (c + 1) name) (found_counted (λ (e : Queued). e.facts.name == name) s.entries ∙ none.0) in
-          elim (queue_of ss (c + 1) name) [
-            | inl absent ↦ inl (past ∙ absent.0, omega (arith, sum_by-cons (count_queued name) s ss, none.1, absent.1))
-            | inr there ↦ inr (suc there.0, there.1, omega (arith, there.2), omega (arith, there.3), past ∙ there.4, there.5)
-          ])
-    ]
+run_formed : (setup : SetupParts) (c : ℕ) (s : Flat) (ls : List Line) (end : Flat) → WellFormed (group_count setup) s → CRunFrom setup c s ls end → WellFormed (group_count setup) end
+run_formed setup c s [] end w run = subst (WellFormed (group_count setup)) (sym run) w
+run_formed setup c s (l ∷ ls) end w run =
+    run_formed setup c (flat_after setup c s l) ls end (step_formed setup c s l (flat_after setup c s l) w run.0) run.1
 
--- and so of the hands
-abbrev InHands : List Hand → ℕ → ℕ → Type 0
-InHands hs a name =
-    ((held_by hs a name ≡ None) × (sum_by (count_held name) hs ≡ 0))
-    ⊎ ((k : ℕ) × (n : ℕ) × (n ≡ a + k) × (k < length hs) × (held_by hs a name ≡ Some (places.Hand n)) × (1 ≤ count_held name (get_or hs k no_hand)))
-
-hand_of : (hs : List Hand) (a name : ℕ) → InHands hs a name
-hand_of [] a name = inl (refl, refl)
-hand_of (h ∷ hs) a name =
-    elim (cases_Bool (holds name h.thread)) [
-      | inl e ↦ inr (0, a, omega arith, omega arith,
-          cond-true (holds name h.thread) (Some (places.Hand a)) (held_by hs (a + 1) name) e,
-          omega (arith, ap {B = ℕ} (λ b. cond b 1 0) e))
-      | inr e ↦ (
-          let past : held_by (h ∷ hs) a name ≡ held_by hs (a + 1) name = cond-false (holds name h.thread) (Some (places.Hand a)) (held_by hs (a + 1) name) e in
-          elim (hand_of hs (a + 1) name) [
-            | inl absent ↦ inl (past ∙ absent.0, omega (arith, sum_by-cons (count_held name) h hs, ap {B = ℕ} (λ b. cond b 1 0) e, absent.1))
-            | inr there ↦ inr (suc there.0, there.1, omega (arith, there.2), omega (arith, there.3), past ∙ there.4, there.5)
-          ])
-    ]
-
--- the place of a name that stands in no queue and no hand
-yard_place : (g : MachineState) (name : ℕ) → place_count g name ≤ 1 → sum_by (count_queued name) g.flats ≡ 0 → sum_by (count_held name) g.hands ≡ 0 → count_at g (in_yard g.yard name) name ≡ place_count g name
-yard_place g name few flats hands =
-    let y : Yard = g.yard in
-    elim (counted (λ (w : Sleeper). w.facts.name == name) y.blocked) [
-      | inl some ↦ subst (λ p. count_at g p name ≡ place_count g name) (sym (cond-true (is_blocked y name) places.Blocked (cond (list_any (λ n. n == name) y.ended) places.Ended places.Nowhere) some.0))
-          (omega (arith, some.1, few))
-      | inr none ↦ subst (λ p. count_at g p name ≡ place_count g name) (sym (cond-false (is_blocked y name) places.Blocked (cond (list_any (λ n. n == name) y.ended) places.Ended places.Nowhere) none.0))
-          (elim (counted (λ n. n == name) y.ended) [
-            | inl some ↦ subst (λ p. count_at g p name ≡ place_count g name) (sym (cond-true (list_any (λ n. n == name) y.ended) places.Ended places.Nowhere some.0))
-                (omega (arith, some.1, few))
-            | inr never ↦ subst (λ p. count_at g p name ≡ place_count g name) (sym (cond-false (list_any (λ n. n == name) y.ended) places.Ended places.Nowhere never.0))
-                (omega (arith, none.1, never.1, flats, hands))
-          ])
-    ]
-
-pub place_is : (g : MachineState) (name : ℕ) → place_count g name ≤ 1 → count_at g (place_of g name) name ≡ place_count g name
-place_is g name few =
-    elim (queue_of g.flats 0 name) [
-      | inr there ↦ (
-          let is : there.1 ≡ there.0 = omega (arith, there.2) in
-          subst (λ p. count_at g p name ≡ place_count g name)
-          (sym (ap (λ o. unwrap_or o (unwrap_or (held_by g.hands 0 name) (in_yard g.yard name))) there.4))
-          (subst (λ n. count_at g (places.Queue n) name ≡ place_count g name) (sym is)
-          (omega (arith, there.5, few, get_or-le-sum_by (count_queued name) g.flats there.0 (empty_flat 0) there.3))))
-      | inl absent ↦ subst (λ p. count_at g p name ≡ place_count g name)
-          (sym (ap (λ o. unwrap_or o (unwrap_or (held_by g.hands 0 name) (in_yard g.yard name))) absent.0))
-          (elim (hand_of g.hands 0 name) [
-            | inr there ↦ (
-                let is : there.1 ≡ there.0 = omega (arith, there.2) in
-                subst (λ p. count_at g p name ≡ place_count g name)
-                (sym (ap (λ o. unwrap_or o (in_yard g.yard name)) there.4))
-                (subst (λ n. count_at g (places.Hand n) name ≡ place_count g name) (sym is)
-                (omega (arith, there.5, few, get_or-le-sum_by (count_held name) g.hands there.0 no_hand there.3))))
-            | inl empty ↦ subst (λ p. count_at g p name ≡ place_count g name)
-                (sym (ap (λ o. unwrap_or o (in_yard g.yard name)) empty.0))
-                (yard_place g name few absent.1 empty.1)
-          ])
-    ]
+pub histories_formed : (setup : SetupParts) (c : ℕ) (ls : List Line) (end : Flat) → CRun setup c ls end → WellFormed (group_count setup) end
+histories_formed setup c ls end run = run_formed setup c (empty_flat (group_count setup)) ls end (empty_fits (group_count setup)) run

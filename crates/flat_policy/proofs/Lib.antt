@@ -21,6 +21,7 @@ pub mod Enters
 pub mod Entries
 pub mod Greatest
 pub mod HandMoves
+pub mod Happens
 pub mod Histories
 pub mod InLane
 pub mod Kept
@@ -35,9 +36,13 @@ pub mod Orders
 pub mod Parts
 pub mod PickIsOne
 pub mod Picks
+pub mod PlaceOf
 pub mod Placed
 pub mod Precedes
+pub mod Prefixes
+pub mod Reaches
 pub mod Refreshed
+pub mod RefreshedBuckets
 pub mod Refreshes
 pub mod Runs
 pub mod SetupLaws
@@ -47,7 +52,8 @@ pub mod Takers
 pub mod Turns
 pub mod Unbound
 pub mod Units
-pub mod Wholes
+pub mod Usage
 pub mod WholePlaces
+pub mod Wholes
 pub mod Windows
 pub mod YardMoves

@@ -20,7 +20,7 @@ use Rattle.flat_policy.specs.Policy.Queue.{empty_flat}
 use Rattle.flat_policy.specs.Policy.Setup.{SetupParts, home_of, migrates, rate_of}
 use Rattle.flat_policy.specs.Policy.Threads.{made_thread}
 use Rattle.flat_policy.specs.Runs.LoadTrace.{LoadState, Tally, bucket_at_index, busy_act, drawn, free_act, free_wake, kept_after, load_act, load_after, load_make, load_setup, load_taken, next_draw, other_cluster, step_by_draw, step_of_load, tallied}
-use Rattle.flat_policy.proofs.Histories.{found_counted}
+use Rattle.flat_policy.proofs.PlaceOf.{found_counted}
 use Rattle.flat_policy.proofs.Members.{contains_none, find_finds, member_of_filter}
 use Rattle.flat_policy.proofs.Unbound.{StateUnbound, Unbound, empty_unbound, enter_unbound, hand_flat_unbound, hand_unbound, hand_yard_unbound, none_unbound, offer_unbound, one_unbound, refresh_unbound, select_unbound, taking_unbound}
 

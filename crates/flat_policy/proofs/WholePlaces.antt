@@ -7,7 +7,7 @@ use Rattle.flat_policy.specs.Policy.Machine.{GRun, MachineState, empty_machine}
 use Rattle.flat_policy.specs.Runs.Histories.{RunYard, entries_of}
 use Rattle.flat_policy.specs.Runs.WholeRuns.{IsWholeRun}
 use Rattle.flat_policy.specs.Runs.Worker.{RunParts}
-use Rattle.flat_policy.proofs.Histories.{runs_in_parts}
+use Rattle.flat_policy.proofs.Prefixes.{runs_in_parts}
 use Rattle.flat_policy.proofs.Runs.{reached}
 
 pub whole_places : (run : RunParts) (front back : List Line) (end : MachineState) (yard : RunYard) → IsWholeRun run (front ++ back) end yard
