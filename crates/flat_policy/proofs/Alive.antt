@@ -109,10 +109,10 @@ ended_among made (e ∷ es) once among =
     let count_first : (name : ℕ) → times_in name (e ∷ es) ≡ one_of (e == name) + times_in name es = λ name. sum_by-cons (λ n. one_of (n == name)) e es in
     let self : one_of (e == e) ≡ 1 = ap one_of (eq-eqb e e refl) in
     let apart : (n : ℕ) → (e == n) ≡ true → list_any (λ m. m == n) es ≡ false = λ n is.
-        elim (counted (λ m. m == n) es) [
-          | inl some ↦ absurd (omega (arith, count_first n, among n, once n, some.1, ap one_of is))
-          | inr never ↦ never.0
-        ] in
+    elim (counted (λ m. m == n) es) [
+      | inl some ↦ absurd (omega (arith, count_first n, among n, once n, some.1, ap one_of is))
+      | inr never ↦ never.0
+    ] in
     omega (
       arith,
       count_either (λ n. e == n) (λ n. list_any (λ m. m == n) es) made apart,

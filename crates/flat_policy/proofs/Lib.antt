@@ -6,6 +6,7 @@ mod SetupParts
 mod SetupRows
 mod SetupTimeRows
 mod SetupTimes
+mod SixTimes
 pub mod Accepted
 pub mod After
 pub mod Aims
@@ -19,6 +20,7 @@ pub mod Chosen
 pub mod ChosenLane
 pub mod Enters
 pub mod Entries
+pub mod Gains
 pub mod Greatest
 pub mod HandMoves
 pub mod Happens
@@ -29,6 +31,7 @@ pub mod KeptLanes
 pub mod Leaves
 pub mod Lexical
 pub mod Loads
+pub mod MaskedOffers
 pub mod Members
 pub mod Moved
 pub mod Offers
@@ -51,6 +54,7 @@ pub mod StepsKeep
 pub mod Takers
 pub mod Turns
 pub mod Unbound
+pub mod UnitPriorities
 pub mod Units
 pub mod Usage
 pub mod WholePlaces

@@ -42,9 +42,14 @@ queue_of : (ss : List Flat) (c name : ℕ) → InQueues ss c name
 queue_of [] c name = inl (refl, refl)
 queue_of (s ∷ ss) c name =
     elim (counted (λ (e : Queued). e.facts.name == name) s.entries) [
-      | inl some ↦ inr (0, c, omega arith, omega arith,
-          cond-true (is_some (named_entry s name)) (Some (places.Queue c)) (queued_in ss (c + 1) name) (found_counted (λ (e : Queued). e.facts.name == name) s.entries ∙ some.0),
-          some.1)
+      | inl some ↦ inr (
+        0,
+        c,
+        omega arith,
+        omega arith,
+        cond-true (is_some (named_entry s name)) (Some (places.Queue c)) (queued_in ss (c + 1) name) (found_counted (λ (e : Queued). e.facts.name == name) s.entries ∙ some.0),
+        some.1,
+      )
       | inr none ↦ (
           let past : queued_in (s ∷ ss) c name ≡ queued_in ss (c + 1) name =
           cond-false (is_some (named_entry s name)) (Some (places.Queue c)) (queued_in ss (c + 1) name) (found_counted (λ (e : Queued). e.facts.name == name) s.entries ∙ none.0) in
@@ -64,9 +69,14 @@ hand_of : (hs : List Hand) (a name : ℕ) → InHands hs a name
 hand_of [] a name = inl (refl, refl)
 hand_of (h ∷ hs) a name =
     elim (cases_Bool (holds name h.thread)) [
-      | inl e ↦ inr (0, a, omega arith, omega arith,
-          cond-true (holds name h.thread) (Some (places.Hand a)) (held_by hs (a + 1) name) e,
-          omega (arith, ap {B = ℕ} (λ b. cond b 1 0) e))
+      | inl e ↦ inr (
+        0,
+        a,
+        omega arith,
+        omega arith,
+        cond-true (holds name h.thread) (Some (places.Hand a)) (held_by hs (a + 1) name) e,
+        omega (arith, ap {B = ℕ} (λ b. cond b 1 0) e),
+      )
       | inr e ↦ (
           let past : held_by (h ∷ hs) a name ≡ held_by hs (a + 1) name = cond-false (holds name h.thread) (Some (places.Hand a)) (held_by hs (a + 1) name) e in
           elim (hand_of hs (a + 1) name) [

@@ -140,8 +140,8 @@ repriced_unbound s now e h =
 pub refresh_unbound : (setup : SetupParts) (now : ℕ) (s : Flat) → QueueUnbound s → QueueUnbound (refresh_event setup now s).flat
 refresh_unbound setup now s su =
     λ e within. (
-        let m = mapped_member (repriced s now) s.entries e (subst (λ es. Contains es e) (refreshed_entries (group_count setup) s now) within) in
-        subst (λ (q : Queued). Unbound q.facts) m.2 (repriced_unbound s now m.0 (su m.0 m.1)))
+    let m = mapped_member (repriced s now) s.entries e (subst (λ es. Contains es e) (refreshed_entries (group_count setup) s now) within) in
+    subst (λ (q : Queued). Unbound q.facts) m.2 (repriced_unbound s now m.0 (su m.0 m.1)))
 
 -- the state before any step
 each_alike : {X : Type 0} (P : X → Type 0) (n j : ℕ) (x d : X) → P x → P d → P (get_or (replicate n x) j d)
