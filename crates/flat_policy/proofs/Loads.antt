@@ -1,7 +1,7 @@
 -- No step of the load is refused, and at most one of its threads sleeps: what each state of the load keeps.
-use Rattle.std.proofs.Common.{◌≡◌, ◌⊎◌, ℕ, zero, suc, ◌+◌, ◌-◌, ◌*◌, ◌/◌, ◌%◌, ◌≤◌, ◌<◌, ◌==◌, nat_le, nat_lt, ◌&&◌, ◌||◌, Bool, true, false, not, cond, Contains, List, [], ◌∷◌, ◌++◌, Option, Some, None, is_none, is_some, refl, sym, ap, ◌∙◌, subst, inl, inr, arith}
+use Rattle.std.proofs.Common.{◌≡◌, ℕ, zero, suc, ◌+◌, ◌-◌, ◌/◌, ◌%◌, ◌≤◌, ◌<◌, ◌==◌, nat_lt, ◌&&◌, ◌||◌, true, false, not, cond, List, [], ◌∷◌, ◌++◌, Option, Some, None, is_none, is_some, refl, sym, ap, ◌∙◌, subst, inl, inr, arith}
 use Rattle.std.specs.List.{list_any}
-use Rattle.std.proofs.lemmas.Bool.{and_parts, cond-false, cond_both, eq-eqb, eqb-true, le-leb, lt-leb, ltb-true, ne_eqb, not_from_false, not_from_true, or_cases, or_from, or_left, or_right, false≢true}
+use Rattle.std.proofs.lemmas.Bool.{and_parts, cond-false, cond_both, eq-eqb, eqb-true, lt-leb, ltb-true, ne_eqb, not_from_true, or_cases, or_from, or_left, or_right, false≢true}
 use Rattle.std.proofs.lemmas.List.Elements.{Contains-push_cases}
 use Rattle.std.proofs.lemmas.List.Folds.{list_any-append}
 use Rattle.std.proofs.lemmas.Option.{none-some, same_Some}
@@ -14,14 +14,12 @@ use Rattle.sched_base.specs.declared.Bucket.{Bucket}
 use Rattle.sched_base.specs.declared.Facts.{Facts}
 use Rattle.sched_base.specs.declared.Step.{Step}
 use Rattle.flat_policy.specs.Policy.Aim.{may_enter, may_enter_by}
-use Rattle.flat_policy.specs.Policy.ClusterSteps.{enter_event, offer_event, refresh_event, select_event}
-use Rattle.flat_policy.specs.Policy.Machine.{MachineState, Refusal, Sleeper, accepted_by, effective_moment, empty_machine, end_outcome, enter_outcome, first_refusal, flat_at, hand_at, hand_empty, hand_full, is_blocked, kept_hand, live_count, name_used, no_room, not_allowed, not_blocked, outcome_by, ran_outcome, refusal, refusals_by, refuse, reply, sleep_outcome, sleeper_of, sleepers_without, taking, wake_outcome}
-use Rattle.flat_policy.specs.Policy.Queue.{empty_flat}
+use Rattle.flat_policy.specs.Policy.ClusterSteps.{offer_event, select_event}
+use Rattle.flat_policy.specs.Policy.Machine.{MachineState, Refusal, Sleeper, accepted_by, effective_moment, end_outcome, enter_outcome, first_refusal, flat_at, hand_at, hand_empty, hand_full, is_blocked, kept_hand, live_count, name_used, no_room, not_allowed, not_blocked, outcome_by, ran_outcome, refusals_by, refuse, reply, sleep_outcome, sleeper_of, wake_outcome}
 use Rattle.flat_policy.specs.Policy.Setup.{SetupParts, home_of, migrates, rate_of}
 use Rattle.flat_policy.specs.Policy.Threads.{made_thread}
 use Rattle.flat_policy.specs.Runs.LoadTrace.{LoadState, Tally, bucket_at_index, busy_act, drawn, free_act, free_wake, kept_after, load_act, load_after, load_make, load_setup, load_taken, next_draw, other_cluster, step_by_draw, step_of_load, tallied}
-use Rattle.flat_policy.proofs.PlaceOf.{found_counted}
-use Rattle.flat_policy.proofs.Members.{contains_none, find_finds, member_of_filter}
+use Rattle.flat_policy.proofs.Members.{find_finds, member_of_filter}
 use Rattle.flat_policy.proofs.Unbound.{StateUnbound, Unbound, empty_unbound, enter_unbound, hand_flat_unbound, hand_unbound, hand_yard_unbound, none_unbound, offer_unbound, one_unbound, refresh_unbound, select_unbound, taking_unbound}
 
 -- one where a thread sleeps
@@ -228,7 +226,7 @@ not_home : (c : ℕ) → (other_cluster c == c) ≡ false
 not_home c = ne_eqb (other_cluster c) c (λ e. omega (arith, e))
 
 -- what a state of the load keeps
-abbrev pub StateFits : ℕ → LoadState → Type 0
+abbrev StateFits : ℕ → LoadState → Type 0
 StateFits i st = LoadFits i st.state st.kept st.tally
 
 act_goes : (st : LoadState) (i a q now : ℕ) → StateFits i st → (o : Option Facts) → (hand_at st.state a).thread ≡ o → ActGoes load_setup i st.state st.kept st.tally a now (load_act st i a q o)
@@ -267,7 +265,7 @@ load_begins seed = record {
   sleeps = refl;
 }
 
-pub load_fits : (seed n : ℕ) → StateFits n (load_after seed n)
+load_fits : (seed n : ℕ) → StateFits n (load_after seed n)
 load_fits seed zero = load_begins seed
 load_fits seed (suc n) =
     let st : LoadState = load_after seed n in

@@ -1,16 +1,12 @@
 -- In which place a name stands, and the one that is told of it.
-use Rattle.std.proofs.Common.{◌≡◌, ◌⊎◌, ℕ, suc, ◌||◌, ◌+◌, ◌≤◌, ◌<◌, ◌==◌, Bool, true, false, List, [], ◌∷◌, ◌++◌, count_by, find, get_or, length, sum_by, Option, Some, None, is_some, unwrap_or, refl, sym, ap, ap₂, ◌∙◌, subst, inl, inr, arith, cond}
+use Rattle.std.proofs.Common.{◌≡◌, ◌⊎◌, ℕ, suc, ◌||◌, ◌+◌, ◌≤◌, ◌<◌, ◌==◌, Bool, true, false, List, [], ◌∷◌, count_by, find, get_or, length, sum_by, Some, None, is_some, unwrap_or, refl, sym, ap, ◌∙◌, subst, inl, inr, arith, cond}
 use Rattle.std.specs.List.{list_any}
 use Rattle.std.proofs.lemmas.Bool.{cases_Bool, cond-false, cond-true}
 use Rattle.std.proofs.lemmas.List.Sums.{get_or-le-sum_by, sum_by-cons}
-use Rattle.sched_base.specs.declared.Entry.{Entry}
-use Rattle.sched_base.specs.declared.Facts.{Facts}
-use Rattle.sched_base.specs.declared.Place.{Place}
 use Rattle.sched_base.specs.declared.Place.TheVariants as places
 use Rattle.flat_policy.specs.Policy.ClusterSteps.{named_entry}
-use Rattle.flat_policy.specs.Policy.Machine.{Hand, MachineState, RunsFrom, Sleeper, Yard, count_at, count_held, count_in_yard, count_queued, hand_at, flat_at, held_by, holds, in_yard, is_blocked, no_hand, place_count, place_of, queued_in, state_after}
+use Rattle.flat_policy.specs.Policy.Machine.{Hand, MachineState, Sleeper, Yard, count_at, count_held, count_queued, held_by, holds, in_yard, is_blocked, no_hand, place_count, place_of, queued_in}
 use Rattle.flat_policy.specs.Policy.Queue.{Flat, Queued, empty_flat}
-use Rattle.flat_policy.specs.Policy.Setup.{SetupParts}
 
 -- members that pass a test are counted where there are some, and found
 pub counted : {X : Type 0} (p : X → Bool) (xs : List X) → ((list_any p xs ≡ true) × (1 ≤ count_by p xs)) ⊎ ((list_any p xs ≡ false) × (count_by p xs ≡ 0))
@@ -24,7 +20,7 @@ counted p (x ∷ xs) =
       ]
     ]
 
-pub found_counted : {X : Type 0} (p : X → Bool) (xs : List X) → is_some (find p xs) ≡ list_any p xs
+found_counted : {X : Type 0} (p : X → Bool) (xs : List X) → is_some (find p xs) ≡ list_any p xs
 found_counted p [] = refl
 found_counted p (x ∷ xs) =
     elim (cases_Bool (p x)) [

@@ -1,5 +1,5 @@
 -- States in which no thread is bound to a cluster, and the changes that keep them so.
-use Rattle.std.proofs.Common.{◌≡◌, ◌⊎◌, ℕ, ◌<◌, ◌==◌, Bool, true, false, not, cond, Contains, List, [], ◌∷◌, ◌++◌, get_or, length, map, replicate, set, Option, Some, None, refl, sym, ap, ◌∙◌, subst, inl, inr, arith}
+use Rattle.std.proofs.Common.{◌≡◌, ℕ, ◌==◌, Bool, not, Contains, List, [], ◌∷◌, get_or, length, map, replicate, set, Option, Some, None, sym, ap, ◌∙◌, subst, inl, inr, arith}
 use Rattle.std.proofs.lemmas.Bool.{cases_eq, cases_lt, cond_both}
 use Rattle.std.proofs.lemmas.List.{get_or-replicate, get_or-set_other, get_or-set_same, get_or_past, length-replicate, length-set}
 use Rattle.std.proofs.lemmas.List.Elements.{Contains-push_cases}
@@ -12,7 +12,7 @@ use Rattle.flat_policy.specs.Policy.Machine.{Hand, MachineState, Sleeper, Yard, 
 use Rattle.flat_policy.specs.Policy.Moves.{new_entry, pick, selected, settled_thread}
 use Rattle.flat_policy.specs.Policy.Offer.{mask_between, offered_between}
 use Rattle.flat_policy.specs.Policy.Queue.{Flat, Queued, empty_flat}
-use Rattle.flat_policy.specs.Policy.Refresh.{is_ui, refreshed, repriced}
+use Rattle.flat_policy.specs.Policy.Refresh.{is_ui, repriced}
 use Rattle.flat_policy.specs.Policy.Setup.{SetupParts, actor_count, cluster_count, cluster_times, group_count, migrates}
 use Rattle.flat_policy.proofs.After.{entered_entries, without_some}
 use Rattle.flat_policy.proofs.Kept.{after_offer_entries, offered_stands, pick_stands, selected_entries}
