@@ -23,7 +23,6 @@ pub mod Entries
 pub mod Gains
 pub mod Greatest
 pub mod HandMoves
-pub mod Prefixes
 pub mod Happens
 pub mod Histories
 pub mod InLane
@@ -31,6 +30,7 @@ pub mod Kept
 pub mod KeptLanes
 pub mod Leaves
 pub mod Lexical
+pub mod Loads
 pub mod MaskedOffers
 pub mod Members
 pub mod Moved
@@ -39,8 +39,10 @@ pub mod Orders
 pub mod Parts
 pub mod PickIsOne
 pub mod Picks
+pub mod PlaceOf
 pub mod Placed
 pub mod Precedes
+pub mod Prefixes
 pub mod Reaches
 pub mod Refreshed
 pub mod RefreshedBuckets
@@ -51,10 +53,11 @@ pub mod SoundParts
 pub mod StepsKeep
 pub mod Takers
 pub mod Turns
+pub mod Unbound
 pub mod UnitPriorities
 pub mod Units
 pub mod Usage
-pub mod Wholes
 pub mod WholePlaces
+pub mod Wholes
 pub mod Windows
 pub mod YardMoves

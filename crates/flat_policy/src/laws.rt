@@ -8,6 +8,7 @@ ghost use Rattle.flat_policy.specs.Laws.Orders.{LanesAreOrdered, TargetsAreOrder
 ghost use Rattle.flat_policy.specs.Laws.Units.{FilledLaneHasFirstClutch, FirstHasGreatestPriority, FirstOfBoundLane, FirstStandsInClutch, LanePrioritiesAreOfUnits, LanePriorityByEntries, PickStandsInLane};
 ghost use Rattle.flat_policy.specs.Laws.Picks.{PrecedesOrders, GoesBeforeOrders, ChoosesAFilledLane, PickIsOne};
 ghost use Rattle.flat_policy.specs.Laws.Sound.{EmptyIsSound, FittingPrefersAmong, StepsKeepSound};
+ghost use Rattle.flat_policy.specs.Laws.Loads.{LoadIsNotRefused, LoadSleepsOne};
 ghost use Rattle.flat_policy.specs.Laws.Places.{LiveIsMadeNotEnded, PlaceIsTheOne, PrefixesAreHistories, TakersMayTake, WholeRunsKeepPlaces};
 ghost use Rattle.flat_policy.specs.Laws.Refreshing.{RefreshesByBucket};
 ghost use Rattle.flat_policy.specs.Laws.Windows.{SetupsHaveQuanta};
@@ -219,4 +220,14 @@ pub fn takers_may_take()
 /// After each prefix of a whole run every name that was made stands in exactly one place.
 pub fn whole_runs_keep_places()
     ensures { WholeRunsKeepPlaces }
+{}
+
+/// No step of the load is refused.
+pub fn load_is_not_refused()
+    ensures { LoadIsNotRefused }
+{}
+
+/// At most one thread of the load sleeps.
+pub fn load_sleeps_one()
+    ensures { LoadSleepsOne }
 {}
