@@ -50,5 +50,6 @@ pub record StepRises (setup : SetupParts) (s : Flat) : Type 0 where
   pub refreshing : (now : ℕ) → RisesBy 0 (group_count setup * 6) s (refresh_event setup now s).flat
   pub powering : (on : Bool) (now : ℕ) → RisesBy 0 0 s (power_event on now s).flat
 
+-- every step at a cluster raises them by no more
 abbrev pub StepsRiseByFew : Type 0
 StepsRiseByFew = (setup : SetupParts) (s : Flat) → StepRises setup s

@@ -99,6 +99,7 @@ clutch_of t = record { group = t.group; bucket = t.bucket }
 abbrev pub clutch_place : Clutch → ℕ
 clutch_place k = k.group * 6 + index k.bucket
 
+-- nothing used, and never blocked
 abbrev pub no_spans : Spans
 no_spans = record { used = 0; blocked = 0 }
 
@@ -114,10 +115,11 @@ turn_of s k = slice_index_or s.turns (clutch_place k) None
 abbrev pub in_clutch : Clutch → Queued → Bool
 in_clutch k e = not (is_some e.facts.bound) && ((e.facts.group == k.group) && same_bucket e.facts.bucket k.bucket)
 
--- the entries of a clutch bucket, and of a lane
+-- the entries of a clutch bucket
 abbrev pub clutch_entries : Flat → Clutch → List Queued
 clutch_entries s k = filter (in_clutch k) s.entries
 
+-- the entries of a lane
 abbrev pub lane_entries : Flat → Lane → List Queued
 lane_entries s l = filter (in_lane l) s.entries
 
