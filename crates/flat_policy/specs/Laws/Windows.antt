@@ -164,8 +164,7 @@ first_starve_by expiring ts s at first (select_at now) =
 first_starve_by expiring ts s at first (lane_fills now filled) = unless_renewed (same_lane filled at) first
 first_starve_by expiring ts s at first no_event = first
 
--- a select keeps the starvation window of a lane: one that is over ends in time, and ending renews the deadline before the choice;
--- a Starve lies within it; and a Natural choice renews the deadline
+-- a select keeps a lane's starvation window: it ends in time and so renews the deadline, a Starve lies within it, and a Natural choice renews the deadline
 pub record SelectKeepsWindow (expiring : Expiring) (ts : List Times) (s next : Flat) (at : Lane) (first : Option ℕ) (now : ℕ) : Type 0 where
   pub in_time : EndsInTime (times_for ts at.bucket).quantum first now (window_ends ts s now at)
   pub ending_renews : IsTrue (window_ends ts s now at) → IsRenewed ts now (lane_state (expiring ts s now) at)

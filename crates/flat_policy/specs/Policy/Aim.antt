@@ -77,8 +77,7 @@ abbrev pub cluster_or : ℕ → Option Target → ℕ
 cluster_or prefer None = prefer
 cluster_or prefer (Some x) = x.cluster
 
--- the aim by the look at the preferred cluster: where that is a load, the best of the clusters that are lighter than it by more than the weight;
--- where it is off, the best of all; the preferred cluster where there is none
+-- the aim by the look at the preferred cluster: the best target that weighs less, or the best of all where it is off; where there is none, the preferred one
 abbrev pub aim_among : ℕ → Option Look → List Target → ℕ
 aim_among prefer (Some (loaded l)) xs = cluster_or prefer (unpreceded lighter (filter (λ (x : Target). nat_lt x.weighed l) xs))
 aim_among prefer (Some off) xs = cluster_or prefer (unpreceded lighter xs)

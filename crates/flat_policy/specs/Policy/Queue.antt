@@ -32,8 +32,7 @@ pub record LaneState : Type 0 where
   pub warp : Warp
   pub starved : Starved
 
--- the queue of a cluster: its entries; used and blocked, and the turn, of each clutch bucket, at group * 6 + bucket index;
--- the windows of the ten timeshare lanes; its last moment; its next arrival and turn; and whether the cluster is on
+-- the queue of a cluster: entries; spans and turns of clutch buckets, at group * 6 + bucket index; lanes; last moment, next arrival and turn; and whether it is on
 pub record Flat : Type 0 where
   pub entries : List Queued
   pub spans : List Spans

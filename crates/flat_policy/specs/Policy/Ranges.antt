@@ -24,7 +24,7 @@ between low high n = nat_le low n && nat_le n high
 abbrev pub is_cluster_row : List ℕ → Bool
 is_cluster_row row = between 1 most_actors (nth row 0) && between least_rate most_rate (nth row 1)
 
--- 1 to 8 clusters, 16 processors in all
+-- 1 to 8 clusters, and no more than 16 processors in all
 abbrev pub clusters_in_range : List (List ℕ) → Bool
 clusters_in_range clusters =
     between 1 most_clusters (length clusters) && (list_all is_cluster_row clusters && nat_le (sum_by (λ row. nth row 0) clusters) most_actors)

@@ -14,8 +14,7 @@ pub record ClusterParts : Type 0 where
   pub cpus : ℕ
   pub rate : ℕ
 
--- a setup: its clusters, its edges in their order, the preferred cluster of each group for each bucket index,
--- the most threads that live at once, the times of each cluster for each bucket index, and its version
+-- a setup: clusters, edges, the preferred clusters of each group by bucket index, the most live threads, the times of each cluster by bucket index, and version
 pub record SetupParts : Type 0 where
   pub clusters : List ClusterParts
   pub edges : List EdgeSpec

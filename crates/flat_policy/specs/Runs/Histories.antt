@@ -89,7 +89,7 @@ event_by setup c s l _ = None
 abbrev pub cluster_event : SetupParts → ℕ → Flat → Line → Option Event
 cluster_event setup c s l = event_by setup c s l (act_of l)
 
--- a thread that enters is one of the setup
+-- a thread that enters fits the setup
 abbrev pub EntersFitting : SetupParts → Act → Option Facts → Type 0
 EntersFitting setup (acts.Enter at head) (Some t) = ThreadFits setup t
 EntersFitting setup _ _ = ⊤

@@ -76,8 +76,7 @@ abbrev pub EachLine : (Line → Type 0) → List Line → Type 0
 EachLine P [] = ⊤
 EachLine P (l ∷ ls) = P l × EachLine P ls
 
--- history is an interleaving of the journals of the clusters, that of the yard, and the logs of the actors:
--- restricted to each spot it is that journal, and restricted to each actor that log
+-- history is an interleaving of journals and logs: restricted to each spot it is that journal, and restricted to each actor that log
 pub record Interleaves (clusters : List (List Line)) (yard : List Line) (logs : List (List Line)) (history : List Line) : Type 0 where
   pub at_clusters : (c : ℕ) → c < length clusters → lines_at_cluster clusters c history ≡ slice_index_or clusters c []
   pub in_yard : lines_in_yard clusters history ≡ yard

@@ -129,7 +129,7 @@ kept_after kept acts.Sleep (Some t) = Some t.name
 kept_after kept (acts.Wake name) thread = None
 kept_after kept act thread = kept
 
--- the load after its step number i
+-- the load after a step, with the draw's new state
 abbrev pub load_taken : LoadState → ℕ → Step → LoadState
 load_taken st x step = record {
   draw = x;

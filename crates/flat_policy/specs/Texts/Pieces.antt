@@ -116,27 +116,27 @@ most_of_32 = 2 ^ 32 - 1
 abbrev pub most_of_64 : ℕ
 most_of_64 = 2 ^ 64 - 1
 
--- a name
+-- the next piece as a name
 abbrev pub name_at : List (List ℕ) → Reading ℕ
 name_at ps = next_piece (number_within most_of_32) ps
 
--- the number of a cluster
+-- the next piece as a cluster
 abbrev pub cluster_at : List (List ℕ) → Reading ℕ
 cluster_at ps = next_piece (number_within (clusters_of_lines - 1)) ps
 
--- the number of a group
+-- the next piece as a group
 abbrev pub group_at : List (List ℕ) → Reading ℕ
 group_at ps = next_piece (number_within (most_groups - 1)) ps
 
--- a base
+-- the next piece as a base
 abbrev pub base_at : List (List ℕ) → Reading ℕ
 base_at ps = next_piece (number_within most_base) ps
 
--- a moment
+-- the next piece as a moment
 abbrev pub moment_at : List (List ℕ) → Reading ℕ
 moment_at ps = next_piece (number_within (moment_limit - 1)) ps
 
--- the number of an actor
+-- the next piece as an actor
 abbrev pub actor_at : List (List ℕ) → Reading ℕ
 actor_at ps = next_piece (number_within (most_actors - 1)) ps
 
@@ -144,7 +144,7 @@ actor_at ps = next_piece (number_within (most_actors - 1)) ps
 abbrev pub bound_within : List ℕ → Result (Option ℕ) LineFault
 bound_within p = if same_text p (codes "-") then Ok None else and_then (number_within (clusters_of_lines - 1) p) (λ c. Ok (Some c))
 
--- a cluster that a thread is bound to, or `-`
+-- the next piece as a cluster that a thread is bound to, or as `-`
 abbrev pub bound_at : List (List ℕ) → Reading (Option ℕ)
 bound_at ps = next_piece bound_within ps
 
@@ -166,7 +166,7 @@ bucket_piece Bg = codes "BG"
 abbrev pub bucket_words : List (Worded Bucket)
 bucket_words = map (λ b. worded (bucket_piece b) b) all_buckets
 
--- a bucket
+-- the next piece as a bucket
 abbrev pub bucket_at : List (List ℕ) → Reading Bucket
 bucket_at ps = next_piece (word_among bucket_words) ps
 
@@ -179,6 +179,6 @@ end_piece false = codes "tail"
 abbrev pub end_words : List (Worded Bool)
 end_words = worded (end_piece true) true ∷ worded (end_piece false) false ∷ []
 
--- an end of a queue
+-- the next piece as an end of a queue
 abbrev pub end_at : List (List ℕ) → Reading Bool
 end_at ps = next_piece (word_among end_words) ps

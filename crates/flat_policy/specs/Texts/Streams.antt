@@ -174,7 +174,7 @@ program_is_new setup so p =
     not (list_any (λ (q : Program). q.name == p.name) so.programs)
     && (nat_lt (length so.programs) setup.threads && nat_le (run_sum so.programs + run_spans p.spans) most_run_work)
 
--- whether they leave room for a power
+-- whether the setup and the earlier lines leave room for a power: its cluster is there, and has no other at that turn
 abbrev pub power_is_new : SetupParts → RunLines → PowerAt → Bool
 power_is_new setup so p =
     nat_lt p.cluster (cluster_count setup)
@@ -201,7 +201,7 @@ abbrev pub run_goes_on : ℕ → Result RunLines LineFault → (RunLines → Res
 run_goes_on number (Err fault) more = Err (bad_line number fault)
 run_goes_on number (Ok so) more = more so
 
--- what the input of a run says, or its status
+-- what the lines of a run say, from a line number on, or the status
 abbrev pub run_lines_from : SetupParts → Stop → List ℕ → ℕ → List (List ℕ) → RunLines → Result RunLines Status
 run_lines_from setup stop rest number [] so = ended_run so (status_after_lines stop number rest)
 run_lines_from setup stop rest number (l ∷ ls) so =
