@@ -1,8 +1,8 @@
 //! The setup: the clusters, the edges between them, the groups and the times.
 
-ghost use Rattle.std.specs.Prelude.{◌≡◌, ◌≤◌, ◌<◌, length, map, slice_get, sum_by};
+ghost use Rattle.std.specs.Prelude.{IsTrue, ◌≡◌, ◌≤◌, ◌<◌, length, map, slice_get, sum_by};
 ghost use Rattle.flat_policy.specs.Policy.Setup.{actor_count, cluster_count, cluster_times, cpus_of, group_count, home_among, home_of, preferred_cluster, rate_of, times_for};
-ghost use Rattle.flat_policy.specs.Policy.Machine.{fits_act, fits_step};
+ghost use Rattle.flat_policy.specs.Policy.Machine.{fits_act, fits_step, numbers_fit};
 ghost use Rattle.flat_policy.specs.Policy.BuiltSetups.{IsClusterTimes, IsEdge, IsSetup, IsTimes};
 ghost use Rattle.flat_policy.specs.Representation.SetupInside.{parts_of_size};
 
@@ -265,7 +265,7 @@ impl Setup {
     }
 
     /// Whether the moment of a step is below 2^40, its base at most 127, and its actor, clusters,
-    /// group and bound cluster below the setup's counts.
+    /// group and bound cluster below the setup's counts. Its names and spans fit by their type.
     pub fn fits(&self, s: &Step) -> bool
         ensures { result ≡ fits_step self.now s.now }
     {
@@ -273,7 +273,8 @@ impl Setup {
     }
 
     fn fits_act(&self, act: Act) -> bool
-        ensures { result ≡ fits_act self.now act }
+        ensures fits { result ≡ fits_act self.now act }
+        ensures numbers { IsTrue (numbers_fit act) }
     {
         match act {
             Act::Make {
