@@ -26,7 +26,7 @@ pub record Reaches (now arrivals turns : ℕ) (s next : Flat) : Type 0 where
   pub last : next.last ≡ now
   pub rises : RisesBy arrivals turns s next
 
--- at once where they are what they were
+-- only the last moment changes
 pub touched_reaches : (now : ℕ) (s : Flat) → Reaches now 0 0 s (touched now s)
 touched_reaches now s = record { last = refl; rises = record { arrival = omega arith; turn = omega arith } }
 
@@ -50,7 +50,7 @@ taken_reaches e now s =
     (record { last = refl; rises = record { arrival = omega arith; turn = omega arith } })
     (record { last = refl; rises = record { arrival = omega arith; turn = omega arith } })
 
--- more turns may have been taken than were, and one turn may be taken for nothing
+-- what rose by at most some turns rose by at most more of them
 weaker : (now arrivals turns more : ℕ) (s next : Flat) → turns ≤ more → Reaches now arrivals turns s next → Reaches now arrivals more s next
 weaker now arrivals turns more s next h r = record { last = r.last; rises = record { arrival = r.rises.arrival; turn = omega (arith, h, r.rises.turn) } }
 
