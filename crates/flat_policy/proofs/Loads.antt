@@ -196,9 +196,9 @@ sleep_goes setup i g kept y a now t f e is = record {
 }
 
 -- the acts of the load, by the draw
-woken_case : (Q : Act → Type 0) (k other : ℕ) (kept : Option ℕ) → is_some kept ≡ true → ((name : ℕ) → kept ≡ Some name → Q (acts.Wake name)) → Q (free_wake kept k other)
-woken_case Q k other None h wake = absurd (false≢true h)
-woken_case Q k other (Some name) h wake = wake name refl
+woken_case : (Q : Act → Type 0) (kept : Option ℕ) → is_some kept ≡ true → ((name : ℕ) → kept ≡ Some name → Q (acts.Wake name)) → Q (free_wake kept)
+woken_case Q None h wake = absurd (false≢true h)
+woken_case Q (Some name) h wake = wake name refl
 
 free_cases : (Q : Act → Type 0) (i q live other : ℕ) (kept : Option ℕ) → (live < 256 → Q (load_make i q)) → Q acts.Refresh → ((name : ℕ) → kept ≡ Some name → Q (acts.Wake name)) → Q (acts.Offer other) → Q acts.Select → Q (free_act i q live other kept)
 free_cases Q i q live other kept make refresh wake offer select =
@@ -208,8 +208,8 @@ free_cases Q i q live other kept make refresh wake offer select =
       | inr few ↦ ltb-true live 256 (and_parts (nat_lt (q % 8) 2) (nat_lt live 256) few).1
     ]))
     (λ h. cond_both (q % 8 == 2) acts.Refresh _ Q (λ k. refresh)
-    (λ k. cond_both ((q % 8 == 3) && is_some kept) (free_wake kept q other) _ Q
-    (λ l. woken_case Q q other kept (and_parts (q % 8 == 3) (is_some kept) l).1 wake)
+    (λ k. cond_both ((q % 8 == 3) && is_some kept) (free_wake kept) _ Q
+    (λ l. woken_case Q kept (and_parts (q % 8 == 3) (is_some kept) l).1 wake)
     (λ l. cond_both (q % 8 == 4) (acts.Offer other) acts.Select Q (λ m. offer) (λ m. select))))
 
 none_kept : (kept : Option ℕ) → is_none kept ≡ true → kept ≡ None

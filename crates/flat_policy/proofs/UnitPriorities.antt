@@ -1,6 +1,5 @@
 -- The priority of a lane, found by its units or in one pass over its entries.
-use Rattle.std.proofs.Common.{◌≡◌, ℕ, ◌+◌, ◌≤◌, nat_lt, max, int_lt, Bool, true, false, ◌&&◌, ◌||◌, ◌==◌, cond, Contains, List, [], ◌∷◌, fold, map, Some, is_some, refl, sym, ap, ◌∙◌, subst, inl, inr, arith, ltb-true, ltb-false}
-use Rattle.std.specs.List.{list_any}
+use Rattle.std.proofs.Common.{◌≡◌, ℕ, ◌+◌, ◌≤◌, nat_lt, max, int_lt, true, false, ◌&&◌, ◌==◌, cond, Contains, List, [], ◌∷◌, fold, map, Some, is_some, refl, sym, ap, ◌∙◌, subst, inl, inr, arith, ltb-true, ltb-false}
 use Rattle.std.proofs.lemmas.Bool.{cases_Bool, cond-false, cond-true, or_parts}
 use Rattle.std.proofs.lemmas.List.Elements.{All-contains}
 use Rattle.sched_base.specs.declared.Bucket.{Bucket}
@@ -13,7 +12,7 @@ use Rattle.flat_policy.specs.Policy.Unpreceded.{unpreceded}
 use Rattle.flat_policy.specs.Policy.Usage.{bound_score, score}
 use Rattle.flat_policy.specs.Policy.WellFormed.{WellFormed}
 use Rattle.flat_policy.specs.Policy.Windows.{lane_priority}
-use Rattle.flat_policy.proofs.Buckets.{in_clutch_parts, in_own_clutch, in_own_lane}
+use Rattle.flat_policy.proofs.Buckets.{in_clutch_parts, in_own_clutch}
 use Rattle.flat_policy.proofs.ByUnit.{in_lane_from}
 use Rattle.flat_policy.proofs.Choice.{is_unpreceded, strict_from_order, there_under_strict}
 use Rattle.flat_policy.proofs.Chosen.{has_from_member}
