@@ -73,7 +73,7 @@ event_by setup c s l (acts.Enter at head) =
 event_by setup c s l acts.Select = where_true (home_of setup (actor_of l) == c) (select_event setup c (moment_of l) s)
 event_by setup c s l (acts.Offer at) =
     where_true ((at == c) && not (home_of setup (actor_of l) == c))
-        (offer_event setup c (home_of setup (actor_of l)) (moment_of l) s)
+    (offer_event setup c (home_of setup (actor_of l)) (moment_of l) s)
 event_by setup c s l (acts.Pull name) =
     if home_of setup (actor_of l) == c then option_map (λ (e : Queued). pull_event e (moment_of l) s) (named_entry s name) else None
 event_by setup c s l (acts.Look at) =
@@ -166,7 +166,7 @@ pub record YardEvent : Type 0 where
 abbrev pub making : SetupParts → RunYard → ℕ → Facts → Option YardEvent
 making setup y now t =
     where_true (not (list_any (λ n. n == t.name) y.made) && nat_lt (live_of_run y) setup.threads)
-        (record { answer = answers.Yes; thread = Some t; yard = record y { made = y.made ++ t.name ∷ []; last = now } })
+    (record { answer = answers.Yes; thread = Some t; yard = record y { made = y.made ++ t.name ∷ []; last = now } })
 
 -- a thread goes to sleep for a span
 abbrev pub sleeping : RunYard → ℕ → Facts → ℕ → YardEvent
@@ -180,7 +180,7 @@ sleeping y now t span = record {
 abbrev pub waking : RunYard → ℕ → ℕ → DueSleeper → Option YardEvent
 waking y now name w =
     where_true ((name == w.facts.name) && nat_le w.due now)
-        (record { answer = answers.Yes; thread = Some (rested (now - w.since) w.facts); yard = record y { blocked = others_blocked y; last = now } })
+    (record { answer = answers.Yes; thread = Some (rested (now - w.since) w.facts); yard = record y { blocked = others_blocked y; last = now } })
 
 -- a thread ends
 abbrev pub ending : RunYard → ℕ → Facts → YardEvent
@@ -190,7 +190,7 @@ ending y now t = record { answer = answers.Yes; thread = Some t; yard = record y
 abbrev pub counting : RunYard → ℕ → Option YardEvent
 counting y now =
     where_true (not (list_any (λ (w : DueSleeper). nat_le w.due now) y.blocked))
-        (record { answer = answers.Left (length y.blocked); thread = None; yard = record y { last = now } })
+    (record { answer = answers.Left (length y.blocked); thread = None; yard = record y { last = now } })
 
 -- what a line comes to in the yard, by its act: none where it has no place there, or asks for something that isn't so
 abbrev pub yard_event_by : SetupParts → RunYard → Line → Act → Option YardEvent
