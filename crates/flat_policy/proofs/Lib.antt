@@ -28,6 +28,8 @@ pub mod Happens
 pub mod Histories
 pub mod InLane
 pub mod Kept
+pub mod KeptClusters
+pub mod KeyedFirst
 pub mod KeptLanes
 pub mod Leaves
 pub mod Lexical

@@ -1,11 +1,12 @@
 //! Laws that show that the definitions say what is meant. Each is the contract of a function that does nothing.
 
 ghost use Rattle.flat_policy.specs.Laws.Choice.{ChoiceIsOne, ChoiceGoesByMembers};
+ghost use Rattle.flat_policy.specs.Laws.Clusters.{CallsKeepClusters, EntriesLeaveByPlace};
 ghost use Rattle.flat_policy.specs.Laws.Kept.{EmptyIsWellFormed, HistoriesKeepWellFormed, StepsKeepWellFormed, StepsRiseByFew};
 ghost use Rattle.flat_policy.specs.Laws.Aims.{AimMayBeEntered, LightestGainsMost};
 ghost use Rattle.flat_policy.specs.Laws.Offers.{MaskedOffersByLane, OffersAreOne, OffersWhatMayBeTaken};
 ghost use Rattle.flat_policy.specs.Laws.Orders.{LanesAreOrdered, TargetsAreOrdered};
-ghost use Rattle.flat_policy.specs.Laws.Units.{FilledLaneHasFirstClutch, FirstHasGreatestPriority, FirstOfBoundLane, FirstStandsInClutch, LanePrioritiesAreOfUnits, LanePriorityByEntries, PickStandsInLane};
+ghost use Rattle.flat_policy.specs.Laws.Units.{FilledLaneHasFirstClutch, FirstGoesByKeys, FirstHasGreatestPriority, FirstOfBoundLane, FirstStandsInClutch, LanePrioritiesAreOfUnits, LanePriorityByEntries, PickStandsInLane};
 ghost use Rattle.flat_policy.specs.Laws.Picks.{PrecedesOrders, GoesBeforeOrders, ChoosesAFilledLane, PickIsOne};
 ghost use Rattle.flat_policy.specs.Laws.Sound.{EmptyIsSound, FittingPrefersAmong, StepsKeepSound};
 ghost use Rattle.flat_policy.specs.Laws.Places.{LiveIsMadeNotEnded, PlaceIsTheOne, PrefixesAreHistories, TakersMayTake, WholeRunsKeepPlaces};
@@ -219,4 +220,20 @@ pub fn takers_may_take()
 /// After each prefix of a whole run every name that was made stands in exactly one place.
 pub fn whole_runs_keep_places()
     ensures { WholeRunsKeepPlaces }
+{}
+
+/// The first of a lane is found in one pass over its entries, by the priority with the score of the unit, then the
+/// turn of the unit, and in one unit the order number.
+pub fn first_goes_by_keys()
+    ensures { FirstGoesByKeys }
+{}
+
+/// After each call every cluster keeps what it kept before.
+pub fn calls_keep_clusters()
+    ensures { CallsKeepClusters }
+{}
+
+/// An entry leaves the entries, and its slot the slots, at its place.
+pub fn entries_leave_by_place()
+    ensures { EntriesLeaveByPlace }
 {}

@@ -6,7 +6,6 @@ use Rattle.sched_base.specs.Facts.{charged, rested}
 use Rattle.sched_base.specs.Limits.{moment_limit, most_base}
 use Rattle.sched_base.specs.declared.Act.{Act}
 use Rattle.sched_base.specs.declared.Answer.{Answer}
-use Rattle.sched_base.specs.declared.Bucket.{Bucket}
 use Rattle.sched_base.specs.declared.Entry.{Entry}
 use Rattle.sched_base.specs.declared.Facts.{Facts}
 use Rattle.sched_base.specs.declared.Place.{Place}
