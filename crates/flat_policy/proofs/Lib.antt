@@ -27,10 +27,11 @@ pub mod Happens
 pub mod Histories
 pub mod InLane
 pub mod Kept
+pub mod KeptClusters
 pub mod KeptLanes
+pub mod KeyedFirst
 pub mod Leaves
 pub mod Lexical
-pub mod Loads
 pub mod MaskedOffers
 pub mod Members
 pub mod Moved
@@ -39,7 +40,6 @@ pub mod Orders
 pub mod Parts
 pub mod PickIsOne
 pub mod Picks
-pub mod PlaceOf
 pub mod Placed
 pub mod Precedes
 pub mod Prefixes
@@ -53,7 +53,6 @@ pub mod SoundParts
 pub mod StepsKeep
 pub mod Takers
 pub mod Turns
-pub mod Unbound
 pub mod UnitPriorities
 pub mod Units
 pub mod Usage

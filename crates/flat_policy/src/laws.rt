@@ -1,11 +1,12 @@
 //! Laws that show that the definitions say what is meant. Each is the contract of a function that does nothing.
 
 ghost use Rattle.flat_policy.specs.Laws.Choice.{ChoiceIsOne, ChoiceGoesByMembers};
+ghost use Rattle.flat_policy.specs.Laws.Clusters.{CallsKeepClusters, EntriesLeaveByPlace};
 ghost use Rattle.flat_policy.specs.Laws.Kept.{EmptyIsWellFormed, HistoriesKeepWellFormed, StepsKeepWellFormed, StepsRiseByFew};
 ghost use Rattle.flat_policy.specs.Laws.Aims.{AimMayBeEntered, LightestGainsMost};
 ghost use Rattle.flat_policy.specs.Laws.Offers.{MaskedOffersByLane, OffersAreOne, OffersWhatMayBeTaken};
 ghost use Rattle.flat_policy.specs.Laws.Orders.{LanesAreOrdered, TargetsAreOrdered};
-ghost use Rattle.flat_policy.specs.Laws.Units.{FilledLaneHasFirstClutch, FirstHasGreatestPriority, FirstOfBoundLane, FirstStandsInClutch, LanePrioritiesAreOfUnits, LanePriorityByEntries, PickStandsInLane};
+ghost use Rattle.flat_policy.specs.Laws.Units.{FilledLaneHasFirstClutch, FirstGoesByKeys, FirstHasGreatestPriority, FirstOfBoundLane, FirstStandsInClutch, LanePrioritiesAreOfUnits, LanePriorityByEntries, PickStandsInLane};
 ghost use Rattle.flat_policy.specs.Laws.Picks.{PrecedesOrders, GoesBeforeOrders, ChoosesAFilledLane, PickIsOne};
 ghost use Rattle.flat_policy.specs.Laws.Sound.{EmptyIsSound, FittingPrefersAmong, StepsKeepSound};
 ghost use Rattle.flat_policy.specs.Laws.Loads.{LoadIsNotRefused, LoadSleepsOne};
@@ -230,4 +231,20 @@ pub fn load_is_not_refused()
 /// At most one thread of the load sleeps.
 pub fn load_sleeps_one()
     ensures { LoadSleepsOne }
+{}
+
+/// The first of a lane is found in one pass over its entries, by the priority with the score of the unit, then the
+/// turn of the unit, and in one unit the order number.
+pub fn first_goes_by_keys()
+    ensures { FirstGoesByKeys }
+{}
+
+/// After each call every cluster keeps what it kept before.
+pub fn calls_keep_clusters()
+    ensures { CallsKeepClusters }
+{}
+
+/// An entry leaves the entries, and its slot the slots, at its place.
+pub fn entries_leave_by_place()
+    ensures { EntriesLeaveByPlace }
 {}

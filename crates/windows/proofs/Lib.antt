@@ -7,9 +7,10 @@ pub mod EachLane
 pub mod Places
 pub mod FlagPlaces
 pub mod Running
-pub mod AtLane
 pub mod AnyPick
 pub mod Events
-pub mod AtChoice
+pub mod LaneStates
+pub mod LaneRuns
+pub mod Passes
 pub mod WarpRuns
 pub mod StarvationRuns

@@ -75,8 +75,8 @@ impl Windows {
         }
     }
 
-    /// The times of a lane's bucket.
-    fn times(&self, lane: Lane) -> Times
+    /// The times of a lane's bucket, in microseconds.
+    pub fn times(&self, lane: Lane) -> Times
         ensures { times_for self.now.times lane.bucket ≡ result }
     {
         self.times[lane.bucket.index() as usize]
@@ -192,6 +192,7 @@ impl Windows {
     pub fn choose(&mut self, now: u64) -> (Lane, Kind)
         requires filled { filled_of self.old ≢ [] }
         requires moment { now < 2 ^ 40 }
+        ensures lane { result.0.bucket ≢ Bucket.Ui }
         ensures chosen { chosen_of self.old.times (filled_of self.old)
             ≡ Some (record { lane = result.0; kind = Some result.1 }) }
         ensures changes { self.new ≡ record self.old {

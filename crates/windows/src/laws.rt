@@ -3,6 +3,8 @@
 ghost use Rattle.flat_policy.specs.Laws.Windows.{StarvationLaw, WarpLaw};
 ghost use Rattle.windows.specs.Flags.{ChoicesAgree, FillingFollows};
 
+use flat_policy::laws::setups_have_quanta;
+
 /// Where the flags say which lanes of a queue have entries, the choice among the filled lanes is
 /// the queue's choice by deadlines.
 pub fn choices_agree()
@@ -21,9 +23,12 @@ pub fn warp_law()
     ensures { WarpLaw }
 {}
 
-/// In every run of a cluster whose quanta are not 0, a lane is starved only until its starvation
-/// window has lasted, from the first time since its deadline was last renewed; and a select that
-/// comes later than that renews the deadline before it chooses.
+/// In every run of a cluster, a lane is starved only until its starvation window has lasted, from
+/// the first time since its deadline was last renewed. A select that comes at the end of the window
+/// or later renews the deadline before it chooses; so do a choice by deadline, and a thread that
+/// enters the empty lane.
 pub fn starvation_law()
     ensures { StarvationLaw }
-{}
+{
+    setups_have_quanta();
+}

@@ -1,5 +1,5 @@
--- What a choice does to the windows of one lane, and what a choice by warp says of its lane.
-use Rattle.std.proofs.Common.{◌≡◌, ℕ, nat_lt, Bool, true, false, cond, Contains, List, [], ◌∷◌, filter, Option, Some, None, option_map, refl, sym, ap, ◌∙◌, subst, inl, inr, arith}
+-- A lane that passes an earlier deadline may do so, by its state.
+use Rattle.std.proofs.Common.{◌≡◌, nat_lt, Bool, true, false, cond, Contains, List, filter, Option, Some, None, option_map, refl, sym, ap, ◌∙◌, subst, inl, inr, arith}
 use Rattle.std.proofs.lemmas.Bool.{cases_Bool}
 use Rattle.std.proofs.lemmas.Option.{none-some, same_Some}
 use Rattle.sched_base.specs.Bucket.{index}
@@ -8,44 +8,16 @@ use Rattle.flat_policy.specs.declared.lanes.Kind.{Kind}
 use Rattle.flat_policy.specs.declared.lanes.Kind.TheVariants.{Natural, Pass, Starve}
 use Rattle.flat_policy.specs.declared.setup.Times.{Times}
 use Rattle.flat_policy.specs.Policy.Queue.{Flat, LaneState, has_entries, same_lane}
-use Rattle.flat_policy.specs.Laws.Windows.{kind_at}
-use Rattle.flat_policy.specs.Policy.Windows.{Choice, above_ui, choice_against, chosen, chosen_behind, chosen_under, earliest_of, filled_lanes, higher_of, may_pass, passing_of, some_higher, stands_higher, window_after}
+use Rattle.flat_policy.specs.Laws.Windows.{kind_at, lane_state}
+use Rattle.flat_policy.specs.Policy.Windows.{above_ui, choice_against, chosen, chosen_behind, chosen_under, earliest_of, filled_lanes, higher_of, may_pass, passing_of, some_higher, stands_higher}
 use Rattle.flat_policy.proofs.Buckets.{same_lane_is}
 use Rattle.flat_policy.proofs.Choice.{is_unpreceded}
-use Rattle.flat_policy.proofs.KeptLanes.{window_keeps}
 use Rattle.flat_policy.proofs.Members.{member_of_filter}
-use Rattle.windows.proofs.AtLane.{AtLane, at_changed}
-use Rattle.windows.proofs.Events.{after_kind, lanes_chosen}
-
-pub at_each : (at : Lane) (P Q : LaneState → Type 0) → ((l : LaneState) → l.lane ≡ at → P l → Q l) → (ls : List LaneState) → AtLane at P ls → AtLane at Q ls
-at_each at P Q step [] a = tt
-at_each at P Q step (l ∷ ls) a = (λ h. step l (same_lane_is l.lane at h) (a.0 h), at_each at P Q step ls a.1)
-
-abbrev no_kind : Option Kind
-no_kind = None
-
-none_either : (b : Bool) → cond b no_kind no_kind ≡ no_kind
-none_either true = refl
-none_either false = refl
-
-after_either : (ts : List Times) (now : ℕ) (b : Bool) (kind : Kind) (l : LaneState) → after_kind ts now (cond b (Some kind) None) l ≡ cond b (window_after ts now kind l) l
-after_either ts now true kind l = refl
-after_either ts now false kind l = refl
-
-at_kind : (at : Lane) (ts : List Times) (now : ℕ) (P Q : LaneState → Type 0) (c : Lane) (k : Option Kind) → ((l : LaneState) → l.lane ≡ at → P l → Q (after_kind ts now (kind_at at (Some (record { lane = c; kind = k }))) l)) → (ls : List LaneState) → AtLane at P ls → AtLane at Q (lanes_chosen ts now (Some (record { lane = c; kind = k })) ls)
-at_kind at ts now P Q c None step ls a =
-    at_each at P Q (λ l is p. subst (λ k. Q (after_kind ts now k l)) (none_either (same_lane c at)) (step l is p)) ls a
-at_kind at ts now P Q c (Some kind) step ls a =
-    at_changed at c P Q (window_after ts now kind) (window_keeps ts now kind)
-    (λ l is p. subst Q (after_either ts now (same_lane c at) kind l) (step l is p)) ls a
-
--- the windows of a lane change as the choice of that lane says, and no others
-pub at_choice : (at : Lane) (ts : List Times) (now : ℕ) (P Q : LaneState → Type 0) (o : Option Choice) → ((l : LaneState) → l.lane ≡ at → P l → Q (after_kind ts now (kind_at at o) l)) → (ls : List LaneState) → AtLane at P ls → AtLane at Q (lanes_chosen ts now o ls)
-at_choice at ts now P Q None step ls a = at_each at P Q step ls a
-at_choice at ts now P Q (Some c) step ls a = at_kind at ts now P Q c.lane c.kind step ls a
+use Rattle.windows.proofs.Events.{HasTenLanes}
+use Rattle.windows.proofs.LaneStates.{one_state}
 
 -- a window that let its lane pass
-pub record Passing (ts : List Times) (x : Flat) (at : Lane) : Type 0 where
+record Passing (ts : List Times) (x : Flat) (at : Lane) : Type 0 where
   pub window : LaneState
   pub stood : Contains x.lanes window
   pub there : same_lane window.lane at ≡ true
@@ -98,6 +70,7 @@ under_passes : (ts : List Times) (x : Flat) (at : Lane) (o : Option Lane) → ki
 under_passes ts x at (Some l) h = absurd (no_kind_here (same_lane l at) Pass h)
 under_passes ts x at None h = earliest_passes ts x at (earliest_of (filled_lanes x)) h
 
--- a lane that passes has a window that lets it pass
-pub passes : (ts : List Times) (x : Flat) (at : Lane) → kind_at at (chosen ts x) ≡ Some Pass → Passing ts x at
-passes ts x at h = under_passes ts x at (above_ui x) h
+pub passes : (ts : List Times) (x : Flat) (at : Lane) (l : LaneState) → HasTenLanes x → lane_state x at ≡ Some l → kind_at at (chosen ts x) ≡ Some Pass → may_pass ts l ≡ true
+passes ts x at l ten is h =
+    let p = under_passes ts x at (above_ui x) h in
+    subst (λ (m : LaneState). may_pass ts m ≡ true) (sym (one_state x at l p.window ten is p.stood (same_lane_is p.window.lane at p.there))) p.may
