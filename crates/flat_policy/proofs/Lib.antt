@@ -32,6 +32,7 @@ pub mod KeptLanes
 pub mod KeyedFirst
 pub mod Leaves
 pub mod Lexical
+pub mod Loads
 pub mod MaskedOffers
 pub mod Members
 pub mod Moved
@@ -40,6 +41,7 @@ pub mod Orders
 pub mod Parts
 pub mod PickIsOne
 pub mod Picks
+pub mod PlaceOf
 pub mod Placed
 pub mod Precedes
 pub mod Prefixes
@@ -53,6 +55,7 @@ pub mod SoundParts
 pub mod StepsKeep
 pub mod Takers
 pub mod Turns
+pub mod Unbound
 pub mod UnitPriorities
 pub mod Units
 pub mod Usage
