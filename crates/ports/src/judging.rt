@@ -1,20 +1,26 @@
 //! What bytes in hand say of the line that begins with them.
-ghost use Rattle.std.specs.Prelude.{◌≤◌, length, take, IfSome, MatchOption};
+ghost use Rattle.std.specs.Prelude.{◌≡◌, ◌≤◌, length, take, IfSome, MatchOption};
 ghost use Rattle.ports.specs.Lines.{HasNoNewline, EndsAt};
-ghost use Rattle.ports.specs.Judging.{Judged, IsBehind};
+ghost use Rattle.ports.specs.Judging.{IsJudged, IsBehind};
 
+use super::line_feed::Fed;
 use memchr::memchr;
+use sched_base::limits::SETUP_BYTES;
 
-/// What the bytes in hand say.
-pub(super) enum Verdict {
-    /// The line has this many bytes, and its newline stands behind them.
-    Line(usize),
-    /// The line is longer than it may be.
-    Long,
-    /// There are more bytes than count, and the line is not at its end.
-    Over,
-    /// That depends on the bytes to come.
-    Open,
+/// What comes next, and how many bytes the line has where it is one; else 0.
+#[derive(Clone, Copy)]
+pub(super) struct Found {
+    pub(super) answer: Fed,
+    pub(super) length: usize,
+}
+
+impl Found {
+    /// An answer without a line.
+    pub(super) fn none(answer: Fed) -> Found
+        ensures { result ≡ record { answer = answer; length = 0 } }
+    {
+        Found { answer, length: 0 }
+    }
 }
 
 /// Where the first newline stands among the first `most` bytes. The first `searched` are known to have none.
@@ -31,26 +37,29 @@ fn newline_among(bytes: &[u8], searched: usize, most: usize) -> Option<usize>
     }
 }
 
-/// Judges the line that begins with `bytes`. It may have `limit` bytes, and only the first `counted` of all bytes
-/// count. The first `searched` bytes are known to have no newline.
-pub(super) fn judge(bytes: &[u8], searched: usize, limit: usize, counted: usize) -> Verdict
-    requires limit { limit ≤ 65536 }
+/// What comes next, where `bytes` say so; `None` where that depends on the bytes to come. A line may have `limit`
+/// bytes, and only the first `counted` of all bytes count. The first `searched` bytes are known to have no newline.
+pub(super) fn judge(bytes: &[u8], searched: usize, limit: usize, counted: usize) -> Option<Found>
+    requires limit { limit ≤ SETUP_BYTES }
     requires within { searched ≤ length bytes.now }
     requires short { searched ≤ limit }
     requires early { searched ≤ counted }
     requires plain { HasNoNewline (take searched bytes.now) }
-    ensures verdict { Judged limit counted bytes.now result }
-    ensures behind { IsBehind searched result }
+    ensures judged { IsJudged limit counted bytes.now result }
+    ensures behind { IfSome result (λ found. IsBehind searched found.length found.answer) }
 {
     let most = bytes.len().min(limit + 1).min(counted);
-    if let Some(at) = newline_among(bytes, searched, most) {
-        return Verdict::Line(at);
+    if let Some(length) = newline_among(bytes, searched, most) {
+        return Some(Found {
+            answer: Fed::Line,
+            length,
+        });
     }
     if bytes.len() <= limit.min(counted) {
-        Verdict::Open
+        None
     } else if limit < counted {
-        Verdict::Long
+        Some(Found::none(Fed::Long))
     } else {
-        Verdict::Over
+        Some(Found::none(Fed::Over))
     }
 }
