@@ -1,5 +1,5 @@
 -- What bytes in hand decide by themselves.
-use Rattle.std.specs.Prelude.{ℕ, ◌+◌, ◌≤◌, List, min, Option, None, Some}
+use Rattle.std.specs.Prelude.{ℕ, ◌+◌, List, min, Option, None, Some}
 use Rattle.ports.specs.Lines.{EndsAt, IsLong, IsOver, IsOpen}
 use Rattle.ports.specs.declared.line_feed.Fed.{Fed}
 use Rattle.ports.specs.declared.line_feed.Fed.TheVariants.{Line, Long, Unfinished, End, Fault, Over}
@@ -18,12 +18,3 @@ IsDecided limit counted bytes n Fault = ⊥
 abbrev pub IsJudged : ℕ → ℕ → List ℕ → Option Found → Type 0
 IsJudged limit counted bytes None = IsOpen limit counted bytes
 IsJudged limit counted bytes (Some found) = IsDecided limit counted bytes found.length found.answer
-
--- a line is not shorter than the bytes that were searched before
-abbrev pub IsBehind : ℕ → ℕ → Fed → Type 0
-IsBehind searched n Line = searched ≤ n
-IsBehind searched n Long = Unit {0}
-IsBehind searched n Over = Unit {0}
-IsBehind searched n Unfinished = Unit {0}
-IsBehind searched n End = Unit {0}
-IsBehind searched n Fault = Unit {0}

@@ -7,7 +7,7 @@ ghost use Rattle.ports.specs.NextLine.{IsOfBytes};
 
 use super::buffer::Buffer;
 use super::devices::Source;
-use super::judging::judge;
+use super::judging::{first_newline, judge};
 use super::seeking::seek;
 use sched_base::limits::{INPUT_BYTES, PIECE_BYTES, SETUP_BYTES};
 use std::alloc::{AllocError, Global};
@@ -36,6 +36,8 @@ pub struct LineFeed {
     buffer: Buffer,
     // How many bytes at the buffer's front were given: a line and its newline, or none.
     given: usize,
+    // Where the first newline behind them stands, until the feed is done.
+    newline: Option<usize>,
     // How many bytes were given in all.
     passed: u64,
     done: bool,
@@ -45,6 +47,7 @@ impl Model for LineFeed {
     ghost use Rattle.std.specs.Prelude.{◌≡◌, ◌+◌, ◌-◌, ◌<◌, ◌≤◌, length, take, drop, true, false};
     ghost use Rattle.sched_base.specs.Limits.{input_bytes, piece_bytes};
     ghost use Rattle.ports.specs.Feeds.{Feed};
+    ghost use Rattle.ports.specs.Lines.{IsFirstNewline};
 
     ghost Value = { Feed };
 
@@ -60,6 +63,7 @@ impl Model for LineFeed {
       counts : f.passed ≤ input_bytes;
       most : f.passed + (length f.buffer - f.given) ≤ input_bytes + 1;
       few : f.done ≡ false → length f.buffer - f.given < piece_bytes;
+      newline : f.done ≡ false → IsFirstNewline (drop f.given f.buffer) f.newline;
     } };
 }
 
@@ -72,6 +76,7 @@ impl LineFeed {
         Ok(LineFeed {
             buffer: Buffer::new(alloc)?,
             given: 0,
+            newline: None,
             passed: 0,
             done: false,
         })
@@ -111,11 +116,18 @@ impl LineFeed {
         self.buffer.pass(self.given);
         self.given = 0;
         let counted = INPUT_BYTES - self.passed;
-        let found = seek(&mut self.buffer, source, limit as usize, counted as usize);
+        let found = seek(
+            &mut self.buffer,
+            self.newline,
+            source,
+            limit as usize,
+            counted as usize,
+        );
         match found.answer {
             Fed::Line => {
                 self.given = found.length + 1;
                 self.passed += found.length as u64 + 1;
+                self.newline = first_newline(&self.buffer.bytes()[self.given..], 0);
                 Fed::Line
             }
             stop => {
@@ -128,12 +140,13 @@ impl LineFeed {
     /// Whether the next answer is at hand: the bytes that were taken hold a whole line, or more bytes than a line may
     /// have or than count. Then `next` with this limit takes nothing from its source.
     pub fn is_at_hand(&self, limit: u32) -> bool
-        requires { limit ≤ SETUP_BYTES }
+        requires limit { limit ≤ SETUP_BYTES }
+        requires open { self.now.done ≡ false }
         ensures { IsTrue result ↔ IsAtHand limit self.now }
     {
         let counted = INPUT_BYTES - self.passed;
         let held = &self.buffer.bytes()[self.given..];
-        judge(held, 0, limit as usize, counted as usize).is_some()
+        judge(held, self.newline, limit as usize, counted as usize).is_some()
     }
 
     /// The line that was given, without its newline, where the last answer was `Line`; else nothing.
@@ -272,8 +285,8 @@ mod tests {
             (5, false, Fed::Line),
             (0, true, Fed::Long),
         ] {
-            assert_eq!(rt; feed.is_at_hand(limit), is_at_hand);
             assert!(rt; !feed.done());
+            assert_eq!(rt; feed.is_at_hand(limit), is_at_hand);
             assert_eq!(rt; feed.next(&mut source, limit), answer);
         }
         Ok(())

@@ -15,7 +15,10 @@ pub fn put_all<K: Sink>(sink: &mut K, from: &[u8]) -> Result<(), Failed>
 {
     let mut written = 0;
     while written < from.len() {
-        written += sink.put(&from[written..])?;
+        match sink.put(&from[written..]) {
+            Ok(count) => written += count,
+            Err(failed) => return Err(failed),
+        }
     }
     Ok(())
 }

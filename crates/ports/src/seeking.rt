@@ -3,24 +3,27 @@ ghost use Rattle.std.specs.Prelude.{◌≡◌, ◌+◌, ◌^◌, ◌<◌, ◌≤
 ghost use Rattle.std.specs.Io.{StartsWith};
 ghost use Rattle.std.specs.Io.KnownBytes.{Keeps, prepend_known};
 ghost use Rattle.ports.specs.LineFeed.{CountsFault};
-ghost use Rattle.ports.specs.Lines.{IsOpen};
+ghost use Rattle.ports.specs.Lines.{IsFirstNewline, IsOpen};
 ghost use Rattle.ports.specs.Seeking.{IsFound, decided_behind};
 
 use super::buffer::Buffer;
 use super::devices::{Failed, Source};
-use super::judging::{Found, judge};
+use super::judging::{Found, first_newline, judge};
 use super::line_feed::Fed;
 use sched_base::limits::{PIECE_BYTES, SETUP_BYTES};
 
-/// Finds what stands at the front of the buffer and of the source behind it. A line may have `limit` bytes, and
-/// only the first `counted` bytes count. Where the bytes in hand decide that, the source isn't asked.
+/// Finds what stands at the front of the buffer, whose first newline stands at `newline`, and of the source behind
+/// it. A line may have `limit` bytes, and only the first `counted` bytes count. Where the bytes in hand decide that,
+/// the source isn't asked.
 pub(super) fn seek<S: Source>(
     buffer: &mut Buffer,
+    newline: Option<usize>,
     source: &mut S,
     limit: usize,
     counted: usize,
 ) -> Found
     requires limit { limit ≤ SETUP_BYTES }
+    requires newline { IsFirstNewline buffer.old newline }
     requires few { length buffer.old < PIECE_BYTES }
     requires early { length buffer.old ≤ counted + 1 }
     requires sum { counted < 2 ^ 62 }
@@ -33,7 +36,7 @@ pub(super) fn seek<S: Source>(
     ensures exact { IsTrue S.is_exact → CountsFault (S.faults source.old) (S.faults source.new) (S.is_failing source.new) result.answer }
     ensures idle { ¬ (IsOpen limit counted buffer.old) → source.new ≡ source.old }
 {
-    match judge(buffer.bytes(), 0, limit, counted) {
+    match judge(buffer.bytes(), newline, limit, counted) {
         Some(found) => found,
         None => read_on(buffer, source, limit, counted),
     }
@@ -61,7 +64,8 @@ fn read_on<S: Source>(buffer: &mut Buffer, source: &mut S, limit: usize, counted
             Ok(_) => {}
             Err(Failed) => return Found::none(Fed::Fault),
         }
-        if let Some(found) = judge(buffer.bytes(), searched, limit, counted) {
+        let newline = first_newline(buffer.bytes(), searched);
+        if let Some(found) = judge(buffer.bytes(), newline, limit, counted) {
             return found;
         }
     }

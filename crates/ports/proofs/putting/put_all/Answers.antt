@@ -7,8 +7,8 @@ use Rattle.ports.proofs.putting.put_all.Goals as goal
 pub loop-written-preserved : goal.loop-written-preserved
 loop-written-preserved g c =
     record {
-      bytes = rw (take-add c.loop-written.written c.in_ok-written.field-0 c.args.from.now)
-          (Appends-append _ _ _ _ _ c.loop-written.invariant.bytes (rw (take_rest c.args.from.now c.loop-written.written) at c.in_ok-written.ensures.bytes));
+      bytes = rw (take-add c.loop-written.written c.in-Ok.count c.args.from.now)
+          (Appends-append _ _ _ _ _ c.loop-written.invariant.bytes (rw (take_rest c.args.from.now c.loop-written.written) at c.in-Ok.ensures.bytes));
       within = search rules;
       later = search rules;
       exact = search rules;
