@@ -1,6 +1,7 @@
--- What a part of a buffer has in it after a drop, a move and a read.
+-- What a buffer has in hand after a drop, a move and a read.
 use Rattle.std.proofs.Common.{◌≡◌, ℕ, ◌+◌, ◌-◌, ◌≤◌, List, ◌++◌, length, take, drop, Option, None, Some, arith, sym, ◌∙◌, ap, append_assoc}
 use Rattle.std.specs.Prelude.{Result, Ok, Err, IfOk}
+use Rattle.std.specs.List.{copy_within}
 use Rattle.std.specs.Io.{ReadsAtMost}
 use Rattle.std.specs.Io.KnownBytes.{Keeps, Consumes, ReadConsumes, prepend_known}
 use Rattle.std.proofs.Math.Seq.{take-add, drop-append_seam}
@@ -21,20 +22,13 @@ part-drop bytes start end count within =
     ∙ sym (drop-take count rest (drop start bytes))
     ∙ ap (λ (n : ℕ). drop count (take n (drop start bytes))) (sym long)
 
--- the part stands at the front after a rotation
-pub part-front : (bytes moved : List ℕ) (start end : ℕ) → start ≤ end → end ≤ length bytes →
-    moved ≡ drop start (take end bytes) ++ take start (take end bytes) →
-    take (end - start) (moved ++ drop end bytes) ≡ take (end - start) (drop start bytes)
-part-front bytes moved start end order within is =
-    let long : end ≡ start + (end - start) = omega arith in
-    let part : drop start (take end bytes) ≡ take (end - start) (drop start bytes) =
-    ap (λ (n : ℕ). drop start (take n bytes)) long ∙ drop-take start (end - start) bytes in
-    let size : end - start ≡ length (drop start (take end bytes)) =
-    sym (length-drop start (take end bytes) ∙ ap (λ (n : ℕ). n - start) (length-take-le end bytes within)) in
-    ap (λ (xs : List ℕ). take (end - start) (xs ++ drop end bytes)) is
-    ∙ ap (take (end - start)) (append_assoc (drop start (take end bytes)) (take start (take end bytes)) (drop end bytes))
-    ∙ take-append-exact (drop start (take end bytes)) (take start (take end bytes) ++ drop end bytes) (end - start) size
-    ∙ part
+-- the part stands at the front after it was copied there
+pub part-front : (bytes : List ℕ) (start end : ℕ) → start ≤ end → end ≤ length bytes →
+    take (end - start) (copy_within bytes start end 0) ≡ take (end - start) (drop start bytes)
+part-front bytes start end order within =
+    let part : List ℕ = take (end - start) (drop start bytes) in
+    let inner : end - start ≤ length (drop start bytes) = simp length-drop (omega arith) in
+    take-append-exact part (drop (0 + (end - start)) bytes) (end - start) (sym (length-take-le (end - start) (drop start bytes) inner))
 
 -- the front of a list after the part behind its first a elements was written over
 pub take-put_mid-read : (a k n : ℕ) (xs ys : List ℕ) → a ≤ length xs → n ≤ length ys →
