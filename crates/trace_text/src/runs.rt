@@ -25,11 +25,10 @@ ghost use Rattle.trace_text.specs.Runs.{
 };
 
 use crate::fields::{base_at, bound_at, bucket_at, cluster_at, group_at, number_at, wide_at};
-use crate::lines::LONGEST;
 use crate::pieces::{Pieces, at_end, is_done, next, pieces_of};
 use crate::words::{RunWord, run_word};
 use flat_policy::texts::{LineFault, Power, ProgramLine, RunLine};
-use sched_base::limits::{MOST_SPAN, MOST_SPANS, MOST_TURNS};
+use sched_base::limits::{LINE_BYTES, MOST_SPAN, MOST_SPANS, MOST_TURNS};
 
 /// How many pairs of a sleep and a run may follow the first run.
 const PAIRS: usize = (MOST_SPANS - 1) / 2;
@@ -169,7 +168,7 @@ pub fn read_program(line: &[u8]) -> Result<ProgramLine, LineFault>
     ensures fits { IfOk result (λ p. ProgramFits (program_of p)) }
     ensures spans { IfOk result HasItsSpans }
 {
-    if line.len() > LONGEST {
+    if line.len() > LINE_BYTES {
         return Err(LineFault::Long);
     }
     thread_at(pieces_of(line))
@@ -184,7 +183,7 @@ pub fn read_run(line: &[u8]) -> Result<RunLine, LineFault>
     ensures fits { IfOk result (λ r. SaysFits (run_says r)) }
     ensures spans { IfOk result HasItsSpansIn }
 {
-    if line.len() > LONGEST {
+    if line.len() > LINE_BYTES {
         return Err(LineFault::Long);
     }
     run_at(pieces_of(line))
