@@ -15,7 +15,7 @@ apart [] = true
 apart (l ∷ ls) = not (list_any (λ (m : Lane). same_lane m l) ls) && (not (list_any (same_lane l) ls) && (same_lane l l && apart ls))
 
 -- a change at a lane that isn't there changes nothing
-elsewhere : (at : Lane) (f : LaneState → LaneState) (ws : List LaneState) → list_any (λ (m : Lane). same_lane m at) (lanes_of ws) ≡ false → at_lane at f ws ≡ ws
+pub elsewhere : (at : Lane) (f : LaneState → LaneState) (ws : List LaneState) → list_any (λ (m : Lane). same_lane m at) (lanes_of ws) ≡ false → at_lane at f ws ≡ ws
 elsewhere at f [] h = refl
 elsewhere at f (w ∷ ws) h =
     let parts = or_parts (same_lane w.lane at) (list_any (λ (m : Lane). same_lane m at) (lanes_of ws)) h in

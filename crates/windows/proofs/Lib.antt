@@ -14,3 +14,5 @@ pub mod LaneRuns
 pub mod Passes
 pub mod WarpRuns
 pub mod StarvationRuns
+pub mod LaneEntries
+pub mod Steps

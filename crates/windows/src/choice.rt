@@ -9,7 +9,7 @@ ghost use Rattle.root_deadlines.specs.Lanes.{filled_among};
 ghost use Rattle.root_deadlines.specs.Places.{place_of};
 ghost use Rattle.windows.specs.OneLane.{lane_window};
 ghost use Rattle.windows.specs.Passing.{passing_with};
-ghost use Rattle.windows.specs.WindowStates.{filled_of, window_of, with_flag};
+ghost use Rattle.windows.specs.WindowStates.{cleared, expired_at, filled_at, filled_of, window_of, with_choice, with_flag};
 
 use crate::window::Window;
 use bucket_tables::{Lane, each_lane};
@@ -115,10 +115,7 @@ impl Windows {
     pub fn fill(&mut self, lane: Lane, now: u64)
         requires lane { lane.bucket ≢ Bucket.Ui }
         requires moment { now < 2 ^ 40 }
-        ensures { self.new ≡ record self.old {
-          lanes = at_lane lane (renewed_deadline self.old.times now) self.old.lanes;
-          filled = with_flag lane true self.old.lanes self.old.filled;
-        } }
+        ensures { self.new ≡ filled_at now lane self.old }
     {
         let renewed = self.window(lane).renewed(self.times(lane), now);
         self.flag(lane);
@@ -139,9 +136,7 @@ impl Windows {
     /// A lane is empty. Its deadline and its windows stay, and so do the other lanes.
     pub fn clear(&mut self, lane: Lane)
         requires { lane.bucket ≢ Bucket.Ui }
-        ensures { self.new ≡ record self.old {
-          filled = with_flag lane false self.old.lanes self.old.filled;
-        } }
+        ensures { self.new ≡ cleared lane self.old }
     {
         self.lanes.clear(lane);
     }
@@ -150,9 +145,7 @@ impl Windows {
     /// starvation window that has lasted for QUANTUM ends, and the deadline becomes `now` and WCEL.
     pub fn expire(&mut self, now: u64)
         requires { now < 2 ^ 40 }
-        ensures { self.new ≡ record self.old {
-          lanes = map (expired_window self.old.times now) self.old.lanes;
-        } }
+        ensures { self.new ≡ expired_at now self.old }
     {
         if self.running.is_empty() {
             return;
@@ -195,9 +188,7 @@ impl Windows {
         ensures lane { result.0.bucket ≢ Bucket.Ui }
         ensures chosen { chosen_of self.old.times (filled_of self.old)
             ≡ Some (record { lane = result.0; kind = Some result.1 }) }
-        ensures changes { self.new ≡ record self.old {
-          lanes = at_lane result.0 (window_after self.old.times now result.1) self.old.lanes;
-        } }
+        ensures changes { self.new ≡ with_choice now result.0 (Some result.1) self.old }
     {
         let (lane, kind) = self.chosen();
         match kind {
