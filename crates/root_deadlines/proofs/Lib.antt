@@ -1,6 +1,5 @@
 pub mod Flags
 pub mod Tens
-pub mod Ranks
-pub mod Least
+pub mod InOrder
 pub mod Earliest
 pub mod Lowest
