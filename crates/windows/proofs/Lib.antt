@@ -4,8 +4,8 @@ pub mod Passing
 pub mod Still
 pub mod Chosen
 pub mod EachLane
-pub mod Places
-pub mod FlagPlaces
+pub mod AtIndex
+pub mod FlagIndices
 pub mod Running
 pub mod AnyPick
 pub mod Events

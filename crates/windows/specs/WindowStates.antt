@@ -6,7 +6,7 @@ use Rattle.flat_policy.specs.declared.setup.Times.{Times}
 use Rattle.flat_policy.specs.Policy.Queue.{LaneState, new_lane, same_lane}
 use Rattle.flat_policy.specs.Policy.Windows.{at_lane, expired_window, renewed_deadline, window_after}
 use Rattle.root_deadlines.specs.Lanes.{filled_among}
-use Rattle.root_deadlines.specs.Places.{place_of}
+use Rattle.root_deadlines.specs.Indices.{index_of_lane}
 
 -- the times by bucket index, the ten lanes with their windows, and for each of them whether it is filled
 pub record WindowState : Type 0 where
@@ -41,5 +41,5 @@ with_choice now at None w = w
 with_choice now at (Some kind) w = record w { lanes = at_lane at (window_after w.times now kind) w.lanes }
 
 -- the windows of a lane
-abbrev pub window_of : WindowState → Lane → LaneState
-window_of w at = slice_index_or w.lanes (place_of at) (new_lane at)
+abbrev pub state_of_lane : WindowState → Lane → LaneState
+state_of_lane w at = slice_index_or w.lanes (index_of_lane at) (new_lane at)
