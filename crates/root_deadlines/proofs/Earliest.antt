@@ -107,40 +107,40 @@ first_map f (b ∷ fs) [] = refl
 first_map f (true ∷ fs) (x ∷ xs) = refl
 first_map f (false ∷ fs) (x ∷ xs) = first_map f fs xs
 
--- the lanes of a list stand at their places
-abbrev Placed : List Lane → Type 0
-Placed [] = Unit {0}
-Placed (l ∷ ls) = (slice_get timeshare_lanes (index_of_lane l) ≡ Some l) × Placed ls
+-- the lanes of a list stand at their indices
+abbrev Indexed : List Lane → Type 0
+Indexed [] = Unit {0}
+Indexed (l ∷ ls) = (slice_get timeshare_lanes (index_of_lane l) ≡ Some l) × Indexed ls
 
-ten_placed : Placed timeshare_lanes
-ten_placed = (refl, (refl, (refl, (refl, (refl, (refl, (refl, (refl, (refl, (refl, tt))))))))))
+ten_indexed : Indexed timeshare_lanes
+ten_indexed = (refl, (refl, (refl, (refl, (refl, (refl, (refl, (refl, (refl, (refl, tt))))))))))
 
-placed_among : (fs : List Bool) (ws : List LaneState) → Placed (map (λ (w : LaneState). w.lane) ws) → Placed (map (λ (w : LaneState). w.lane) (filled_among fs ws))
-placed_among [] ws p = tt
-placed_among (f ∷ fs) [] p = tt
-placed_among (true ∷ fs) (w ∷ ws) p = (p.0, placed_among fs ws p.1)
-placed_among (false ∷ fs) (w ∷ ws) p = placed_among fs ws p.1
+indexed_among : (fs : List Bool) (ws : List LaneState) → Indexed (map (λ (w : LaneState). w.lane) ws) → Indexed (map (λ (w : LaneState). w.lane) (filled_among fs ws))
+indexed_among [] ws p = tt
+indexed_among (f ∷ fs) [] p = tt
+indexed_among (true ∷ fs) (w ∷ ws) p = (p.0, indexed_among fs ws p.1)
+indexed_among (false ∷ fs) (w ∷ ws) p = indexed_among fs ws p.1
 
 abbrev lane_of_due : Option Due → Option Lane
 lane_of_due None = None
 lane_of_due (Some d) = slice_get timeshare_lanes d.index
 
-best_placed : (ws : List LaneState) (x : LaneState) → slice_get timeshare_lanes (index_of_lane x.lane) ≡ Some x.lane → Placed (map (λ (w : LaneState). w.lane) ws)
+best_indexed : (ws : List LaneState) (x : LaneState) → slice_get timeshare_lanes (index_of_lane x.lane) ≡ Some x.lane → Indexed (map (λ (w : LaneState). w.lane) ws)
     → lane_of_due (option_map due_of (fold (better due_before) (Some x) ws)) ≡ option_map (λ (e : LaneState). e.lane) (fold (better due_before) (Some x) ws)
-best_placed [] x at p = at
-best_placed (w ∷ ws) x at p =
+best_indexed [] x at p = at
+best_indexed (w ∷ ws) x at p =
     elim (due_before w x) as (λ b. lane_of_due (option_map due_of (fold (better due_before) (cond b (Some w) (Some x)) ws))
     ≡ option_map (λ (e : LaneState). e.lane) (fold (better due_before) (cond b (Some w) (Some x)) ws)) [
-      | true ↦ best_placed ws w p.0 p.1
-      | false ↦ best_placed ws x at p.1
+      | true ↦ best_indexed ws w p.0 p.1
+      | false ↦ best_indexed ws x at p.1
     ]
 
-any_placed : (ws : List LaneState) → Placed (map (λ (w : LaneState). w.lane) ws)
+any_indexed : (ws : List LaneState) → Indexed (map (λ (w : LaneState). w.lane) ws)
     → lane_of_due (option_map due_of (fold (better due_before) None ws)) ≡ option_map (λ (e : LaneState). e.lane) (fold (better due_before) None ws)
-any_placed [] p = refl
-any_placed (w ∷ ws) p = best_placed ws w p.0 p.1
+any_indexed [] p = refl
+any_indexed (w ∷ ws) p = best_indexed ws w p.0 p.1
 
--- each place below ten is that of its lane
+-- each number below ten is the index of a lane
 pub lane_there : (p : ℕ) → p < 10 → (x : Lane) × (slice_get timeshare_lanes p ≡ Some x) × (index_of_lane x ≡ p)
 lane_there p small =
     let fg = lane Fg true in (
@@ -189,7 +189,7 @@ earliest_is fs ds flags numbers p small first ws are =
     ap (λ q. slice_get timeshare_lanes (passed rest ds (record { index = q; deadline = slice_index ds q })).index) (sym there.2)
     ∙ ap (λ (d : Due). slice_get timeshare_lanes d.index) (passed_over rest ds (due_at ds x) (behind_length fs ∙ flags) ∙ ap (λ es. over rest es (due_at ds x)) same)
     ∙ ap lane_of_due (from_first fs ws (due_at ds x) (ap in_order are.lanes) begins)
-    ∙ any_placed (filled_among fs ws) (placed_among fs ws (subst Placed (sym are.lanes) ten_placed))
+    ∙ any_indexed (filled_among fs ws) (indexed_among fs ws (subst Indexed (sym are.lanes) ten_indexed))
     ∙ ap (λ o. option_map (λ (e : LaneState). e.lane) o) (due_by_scan fs ws are.lanes)
 
 among_map : {X Y : Type 0} (f : X → Y) (fs : List Bool) (xs : List X) → filled_among fs (map f xs) ≡ map f (filled_among fs xs)

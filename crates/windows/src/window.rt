@@ -81,7 +81,11 @@ impl Window {
         ensures { (at : Lane) (ts : List Times) → times_for ts at.bucket ≡ times
             → lane_window at result ≡ (if is_over then renewed_deadline ts now (lane_window at self) else lane_window at self) }
     {
-        if is_over { self.renewed(times, now) } else { self }
+        if is_over {
+            self.renewed(times, now)
+        } else {
+            self
+        }
     }
 
     /// Whether its warp or its starvation window runs.

@@ -11,7 +11,7 @@ use Rattle.windows.proofs.choice.Windows.expire.Given as goal
 abbrev pub invariant-loop-index : goal.invariant-loop-index
 invariant-loop-index l = record {
   lanes : lanes_of l.self.lanes ≡ timeshare_lanes;
-  same : record l.self { lanes = changed_where l.rest (expired_window l.self.times l.now) l.self.lanes } ≡ expired_at l.now l.initial.self
+  same : record l.self { lanes = changed_where l.rest (expired_window l.self.times l.now) l.self.lanes } ≡ expired_at l.now l.initial.self;
 }
 
 abbrev pub decreases-loop-index : goal.decreases-loop-index
