@@ -1,16 +1,19 @@
 -- Which lanes have entries after each step.
-use Rattle.std.proofs.Common.{◌≡◌, ℕ, Bool, true, false, ◌||◌, Contains, List, [], ◌∷◌, map, refl, sym, ap, ◌∙◌}
+use Rattle.std.proofs.Common.{◌≡◌, ℕ, Bool, true, false, ◌||◌, Contains, List, [], ◌∷◌, map, Option, Some, None, option_and_then, refl, sym, ap, ◌∙◌}
 use Rattle.std.specs.List.{list_any}
 use Rattle.std.proofs.lemmas.Bool.{false≢true}
+use Rattle.std.proofs.lemmas.Option.{none-some}
 use Rattle.std.proofs.lemmas.List.Folds.{list_any-append}
 use Rattle.sched_base.specs.declared.Facts.{Facts}
 use Rattle.bucket_tables.specs.declared.Lane.{Lane}
 use Rattle.flat_policy.specs.declared.setup.Times.{Times}
-use Rattle.flat_policy.specs.Policy.Moves.{entered, new_entry, removed, settled_thread, without}
+use Rattle.flat_policy.specs.Policy.Moves.{entered, goes_before, new_entry, pick, pick_in, removed, selected, selected_by, settled_thread, without}
 use Rattle.flat_policy.specs.Policy.Queue.{Flat, Queued, has_entries, in_lane, lane_of, same_lane}
 use Rattle.flat_policy.specs.Policy.Refresh.{refreshed, repriced}
 use Rattle.flat_policy.specs.Policy.WellFormed.{ArrivalsRise, WellFormed}
-use Rattle.flat_policy.proofs.After.{entered_entries, removed_entries}
+use Rattle.flat_policy.specs.Policy.Windows.{Choice, chosen, expired}
+use Rattle.flat_policy.proofs.After.{entered_entries, removed_entries, selected_by_entries}
+use Rattle.flat_policy.proofs.Choice.{is_unpreceded}
 use Rattle.flat_policy.proofs.Leaves.{same_bool, stays, stood}
 use Rattle.flat_policy.proofs.Members.{any_from_member, member_from_any}
 use Rattle.flat_policy.proofs.Refreshed.{refreshed_entries}
@@ -53,9 +56,23 @@ has_refreshed groups s now l =
 pub has_removed : (s : Flat) → ArrivalsRise s.entries → (e : Queued) (now : ℕ) (l : Lane) → Contains s.entries e → in_lane l e ≡ false → has_entries (removed e now s) l ≡ has_entries s l
 has_removed s rise e now l c out = ap (list_any (in_lane l)) (removed_entries e now s) ∙ has_without s.entries rise e c l out
 
+pub has_selected : (ts : List Times) (now : ℕ) (s : Flat) → ArrivalsRise s.entries → (e : Queued) (l : Lane) → pick ts now s ≡ Some e → in_lane l e ≡ false
+    → has_entries (selected ts now s) l ≡ has_entries s l
+has_selected ts now s rise e l picked out = by_choice (chosen ts (expired ts s now)) picked
+  where
+    by_choice : (o : Option Choice) → option_and_then (λ (c : Choice). pick_in (expired ts s now) c.lane) o ≡ Some e
+        → has_entries (selected_by ts now (expired ts s now) o (option_and_then (λ (c : Choice). pick_in (expired ts s now) c.lane) o)) l ≡ has_entries s l
+    by_choice None p = absurd (none-some e p)
+    by_choice (Some c) p =
+        let among = (is_unpreceded (goes_before (expired ts s now) c.lane) s.entries e p).member in
+        ap (λ o. has_entries (selected_by ts now (expired ts s now) (Some c) o) l) p
+        ∙ ap (list_any (in_lane l)) (selected_by_entries ts now (expired ts s now) (Some c) (Some e) (λ none. absurd (none-some c (sym none))))
+        ∙ has_without s.entries rise e among l out
+
 pub entries_follow : (groups : ℕ) (s : Flat) → WellFormed groups s → LanesWithEntries s
 entries_follow groups s well = record {
   entering = λ ts t head now l. has_entered ts t head now s l;
   leaving = λ e now l c out. has_removed s well.arrivals_rise e now l c out;
+  selecting = λ ts now e l picked out. has_selected ts now s well.arrivals_rise e l picked out;
   refreshing = λ groups now l. has_refreshed groups s now l;
 }

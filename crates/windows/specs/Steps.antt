@@ -5,7 +5,7 @@ use Rattle.sched_base.specs.declared.Facts.{Facts}
 use Rattle.bucket_tables.specs.declared.Lane.{Lane}
 use Rattle.flat_policy.specs.declared.setup.Times.{Times}
 use Rattle.flat_policy.specs.Policy.ClusterSteps.{touched}
-use Rattle.flat_policy.specs.Policy.Moves.{entered, removed, selected}
+use Rattle.flat_policy.specs.Policy.Moves.{entered, pick, removed, selected}
 use Rattle.flat_policy.specs.Policy.Queue.{Flat, Queued, has_entries, lane_of, same_lane}
 use Rattle.flat_policy.specs.Policy.Refresh.{refreshed}
 use Rattle.flat_policy.specs.Policy.WellFormed.{WellFormed}
@@ -13,10 +13,11 @@ use Rattle.flat_policy.specs.Policy.Windows.{Choice, chosen, expired}
 use Rattle.windows.specs.Flags.{AreWindowsOf}
 use Rattle.windows.specs.WindowStates.{WindowState, cleared, expired_at, filled_at, with_choice}
 
--- which lanes have entries after a thread enters, after an entry leaves, and after a refresh
+-- which lanes have entries after a thread enters, after an entry leaves or is selected, and after a refresh
 pub record LanesWithEntries (s : Flat) : Type 0 where
   pub entering : (ts : List Times) (t : Facts) (head : Bool) (now : ℕ) (l : Lane) → has_entries (entered ts t head now s) l ≡ (has_entries s l || same_lane (lane_of t) l)
   pub leaving : (e : Queued) (now : ℕ) (l : Lane) → Contains s.entries e → same_lane (lane_of e.facts) l ≡ false → has_entries (removed e now s) l ≡ has_entries s l
+  pub selecting : (ts : List Times) (now : ℕ) (e : Queued) (l : Lane) → pick ts now s ≡ Some e → same_lane (lane_of e.facts) l ≡ false → has_entries (selected ts now s) l ≡ has_entries s l
   pub refreshing : (groups now : ℕ) (l : Lane) → has_entries (refreshed groups s now) l ≡ has_entries s l
 
 -- a thread enters: its lane is filled where it was empty; a UI lane has no windows

@@ -99,7 +99,7 @@ impl Windows {
         }
     }
 
-    /// Puts the changed windows of a lane in their place.
+    /// Writes the changed windows of a lane.
     fn put(&mut self, lane: Lane, window: Window)
         requires { lane.bucket ≢ Bucket.Ui }
         ensures { (change : LaneState → LaneState)

@@ -18,8 +18,8 @@ pub fn filling_follows()
     ensures { FillingFollows }
 {}
 
-/// After a thread enters, its lane has entries; after an entry leaves, and after a refresh, every
-/// other lane has entries exactly where it had some.
+/// After a thread enters, its lane has entries; after that, after an entry leaves or is selected, and
+/// after a refresh, every other lane has entries exactly where it had some.
 pub fn entries_follow_steps()
     ensures { EntriesFollowSteps }
 {}
