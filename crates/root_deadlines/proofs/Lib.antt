@@ -3,3 +3,4 @@ pub mod Tens
 pub mod InOrder
 pub mod Earliest
 pub mod Lowest
+pub mod IndexedLanes

@@ -59,29 +59,30 @@ impl Window {
         ensures { (at : Lane) (ts : List Times) → times_for ts at.bucket ≡ times
             → IsChange at self result (expired_window ts now (lane_window at self)) }
     {
-        let is_over = is_over(self.starved, times.quantum, now);
         if has_ended(self.warp, now) {
             let spent = Window {
                 deadline: self.deadline,
                 warp: Warp::Spent,
                 starved: self.starved,
             };
-            return Some(spent.renewed_if(is_over, times, now));
+            return Some(spent.renewed_if_over(times, now));
         }
-        if is_over {
+        if is_over(self.starved, times.quantum, now) {
             Some(self.renewed(times, now))
         } else {
             None
         }
     }
 
-    /// The lane as it is, or with a new deadline and no starvation window.
-    fn renewed_if(self, is_over: bool, times: Times, now: u64) -> Window
+    /// The lane with a new deadline and no starvation window where that has lasted for QUANTUM, else as
+    /// it is.
+    fn renewed_if_over(self, times: Times, now: u64) -> Window
         requires { now < 2 ^ 40 }
         ensures { (at : Lane) (ts : List Times) → times_for ts at.bucket ≡ times
-            → lane_window at result ≡ (if is_over then renewed_deadline ts now (lane_window at self) else lane_window at self) }
+            → lane_window at result ≡ (if window_over times.quantum now self.starved
+                then renewed_deadline ts now (lane_window at self) else lane_window at self) }
     {
-        if is_over {
+        if is_over(self.starved, times.quantum, now) {
             self.renewed(times, now)
         } else {
             self
