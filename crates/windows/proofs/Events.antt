@@ -37,7 +37,7 @@ LanesBy ts s next (select_at now) = next ≡ selected ts now s
 LanesBy ts s next (lane_fills now at) = next.lanes ≡ at_lane at (renewed_deadline ts now) s.lanes
 LanesBy ts s next no_event = next.lanes ≡ s.lanes
 
-removed_lanes : (e : Queued) (now : ℕ) (s : Flat) → (removed e now s).lanes ≡ s.lanes
+pub removed_lanes : (e : Queued) (now : ℕ) (s : Flat) → (removed e now s).lanes ≡ s.lanes
 removed_lanes e now s =
     let after : Flat = without_entry e now s in
     let k : Clutch = clutch_of e.facts in
@@ -47,7 +47,7 @@ removed_lanes e now s =
     (λ h. cond_both (not (clutch_has_entries after k)) (without_turn k after) (cond same after (with_next_turn k after)) P (λ f. refl)
     (λ f. cond_both same after (with_next_turn k after) P (λ g. refl) (λ g. refl)))
 
-selection_lanes : (e : Queued) (now : ℕ) (s : Flat) → (removed_by_selection e now s).lanes ≡ s.lanes
+pub selection_lanes : (e : Queued) (now : ℕ) (s : Flat) → (removed_by_selection e now s).lanes ≡ s.lanes
 selection_lanes e now s =
     let after : Flat = without_entry e now s in
     let k : Clutch = clutch_of e.facts in
@@ -55,7 +55,7 @@ selection_lanes e now s =
     cond_both (is_some e.facts.bound) after (turn_on_selection k after) P (λ h. refl)
     (λ h. cond_both (clutch_has_entries after k) (with_next_turn k after) (without_turn k after) P (λ f. refl) (λ f. refl))
 
-entered_lanes : (ts : List Times) (t : Facts) (head : Bool) (now : ℕ) (s : Flat) → (entered ts t head now s).lanes ≡ lanes_filled ts now s (lane_of t)
+pub entered_lanes : (ts : List Times) (t : Facts) (head : Bool) (now : ℕ) (s : Flat) → (entered ts t head now s).lanes ≡ lanes_filled ts now s (lane_of t)
 entered_lanes ts t head now s =
     let after : Flat = with_entry ts t head now s in
     let k : Clutch = clutch_of t in
@@ -63,7 +63,7 @@ entered_lanes ts t head now s =
     cond_both (is_some t.bound) after (turn_on_entering s k after) P (λ h. refl)
     (λ h. cond_both (not (clutch_has_entries s k) || not (clutch_priority s k == clutch_priority after k)) (with_next_turn k after) after P (λ e. refl) (λ e. refl))
 
-refreshed_lanes : (groups : ℕ) (s : Flat) (now : ℕ) → (refreshed groups s now).lanes ≡ s.lanes
+pub refreshed_lanes : (groups : ℕ) (s : Flat) (now : ℕ) → (refreshed groups s now).lanes ≡ s.lanes
 refreshed_lanes groups s now =
     fold_keeps (turn_on_refresh s) (λ (b : Flat). b.lanes ≡ s.lanes) (all_clutches groups)
     (λ b k c h. cond_both (clutch_priority s k == clutch_priority b k) b (with_next_turn k b) (λ (u : Flat). u.lanes ≡ s.lanes) (λ e. h) (λ e. h))

@@ -48,7 +48,7 @@ one_state s at l m ten is stands named =
     (subst (λ x. stands_higher l.lane x ≡ false) same (higher.irreflexive l found.0))
     (subst (λ x. stands_higher x l.lane ≡ false) same (higher.irreflexive l found.0))
 
-same_either_way : (x y : Lane) → same_lane x y ≡ same_lane y x
+pub same_either_way : (x y : Lane) → same_lane x y ≡ same_lane y x
 same_either_way x y =
     elim (cases_Bool (same_lane x y)) [
       | inl e ↦ ap (λ z. same_lane x z) (sym (same_lane_is x y e)) ∙ ap (λ z. same_lane z x) (same_lane_is x y e)

@@ -4,8 +4,8 @@ pub mod Passing
 pub mod Still
 pub mod Chosen
 pub mod EachLane
-pub mod Places
-pub mod FlagPlaces
+pub mod AtIndex
+pub mod FlagIndices
 pub mod Running
 pub mod AnyPick
 pub mod Events
@@ -14,3 +14,5 @@ pub mod LaneRuns
 pub mod Passes
 pub mod WarpRuns
 pub mod StarvationRuns
+pub mod LaneEntries
+pub mod Steps

@@ -2,6 +2,7 @@
 
 ghost use Rattle.flat_policy.specs.Laws.Windows.{StarvationLaw, WarpLaw};
 ghost use Rattle.windows.specs.Flags.{ChoicesAgree, FillingFollows};
+ghost use Rattle.windows.specs.Steps.{EntriesFollowSteps, WindowsFollowSteps};
 
 use flat_policy::laws::setups_have_quanta;
 
@@ -15,6 +16,19 @@ pub fn choices_agree()
 /// that holds of that lane, too.
 pub fn filling_follows()
     ensures { FillingFollows }
+{}
+
+/// After a thread enters, its lane has entries; after that, after an entry leaves or is selected, and
+/// after a refresh, every other lane has entries exactly where it had some.
+pub fn entries_follow_steps()
+    ensures { EntriesFollowSteps }
+{}
+
+/// Where the windows are those of a well-formed queue, they are those of the queue after each step, once
+/// the calls of that step were made: `fill` where a thread entered an empty timeshare lane, `clear` where
+/// the last entry of one left, and `expire` and then `choose` for a select.
+pub fn windows_follow_steps()
+    ensures { WindowsFollowSteps }
 {}
 
 /// In every run of a cluster, a lane passes earlier deadlines only until its warp has lasted, from

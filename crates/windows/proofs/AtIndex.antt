@@ -1,4 +1,4 @@
--- What is read and written at the place of a lane is read and written at that lane.
+-- What is read and written at the index of a lane is read and written at that lane.
 use Rattle.std.proofs.Common.{◌≡◌, ℕ, Bool, true, false, List, [], ◌∷◌, length, map, refl}
 use Rattle.std.specs.Prelude.{slice_index, slice_index_or, slice_set}
 use Rattle.sched_base.specs.declared.buckets.Bucket.{Bucket}
@@ -6,7 +6,7 @@ use Rattle.sched_base.specs.declared.buckets.Bucket.TheVariants.{Bg, Df, Fg, Ini
 use Rattle.bucket_tables.specs.declared.Lane.{Lane}
 use Rattle.flat_policy.specs.Policy.Queue.{LaneState, lane, new_lane, timeshare_lanes}
 use Rattle.flat_policy.specs.Policy.Windows.{at_lane}
-use Rattle.root_deadlines.specs.Places.{place_of}
+use Rattle.root_deadlines.specs.Indices.{index_of_lane}
 use Rattle.root_deadlines.proofs.Tens.{by_ten}
 use Rattle.windows.specs.declared.choice.Marks.{Marks}
 use Rattle.windows.specs.Views.{windows_over}
@@ -26,11 +26,11 @@ pub deadlines_over : (ds : List ℕ) (ms : List Marks) → length ds ≡ 10 → 
 deadlines_over ds ms d m =
     by_tens (λ es ns. map (λ (w : LaneState). w.deadline) (windows_over es ns) ≡ es) (λ a b c d e f g h i j k l m n o p q r s t. refl) ds ms d m
 
--- the windows read at a lane's place
+-- the windows read at a lane's index
 abbrev ReadsAt : Lane → Marks → Marks → List ℕ → List Marks → Type 0
 ReadsAt at mark default ds ms =
-    mark ≡ slice_index_or ms (place_of at) default
-    → slice_index_or (windows_over ds ms) (place_of at) (new_lane at) ≡ record { lane = at; deadline = slice_index ds (place_of at); warp = mark.warp; starved = mark.starved }
+    mark ≡ slice_index_or ms (index_of_lane at) default
+    → slice_index_or (windows_over ds ms) (index_of_lane at) (new_lane at) ≡ record { lane = at; deadline = slice_index ds (index_of_lane at); warp = mark.warp; starved = mark.starved }
 
 pub read_at : (b : Bucket) (bound : Bool) (mark default : Marks) (ds : List ℕ) (ms : List Marks) → (b ≡ Ui → ⊥) → length ds ≡ 10 → length ms ≡ 10
     → ReadsAt (lane b bound) mark default ds ms
@@ -46,11 +46,11 @@ read_at Ut false mark default ds ms other x y = by_tens (ReadsAt (lane Ut false)
 read_at Bg true mark default ds ms other x y = by_tens (ReadsAt (lane Bg true) mark default) (λ a b c d e f g h i j k l m n o p q r s t is. rw is refl) ds ms x y
 read_at Bg false mark default ds ms other x y = by_tens (ReadsAt (lane Bg false) mark default) (λ a b c d e f g h i j k l m n o p q r s t is. rw is refl) ds ms x y
 
--- the windows written at a lane's place
+-- the windows written at a lane's index
 abbrev WritesAt : Lane → (LaneState → LaneState) → ℕ → Marks → List ℕ → List Marks → Type 0
 WritesAt at change deadline mark ds ms =
-    change (slice_index_or (windows_over ds ms) (place_of at) (new_lane at)) ≡ record { lane = at; deadline = deadline; warp = mark.warp; starved = mark.starved }
-    → windows_over (slice_set ds (place_of at) deadline) (slice_set ms (place_of at) mark) ≡ at_lane at change (windows_over ds ms)
+    change (slice_index_or (windows_over ds ms) (index_of_lane at) (new_lane at)) ≡ record { lane = at; deadline = deadline; warp = mark.warp; starved = mark.starved }
+    → windows_over (slice_set ds (index_of_lane at) deadline) (slice_set ms (index_of_lane at) mark) ≡ at_lane at change (windows_over ds ms)
 
 pub write_at : (b : Bucket) (bound : Bool) (change : LaneState → LaneState) (deadline : ℕ) (mark : Marks) (ds : List ℕ) (ms : List Marks)
     → (b ≡ Ui → ⊥) → length ds ≡ 10 → length ms ≡ 10 → WritesAt (lane b bound) change deadline mark ds ms
@@ -66,10 +66,10 @@ write_at Ut false change deadline mark ds ms other x y = by_tens (WritesAt (lane
 write_at Bg true change deadline mark ds ms other x y = by_tens (WritesAt (lane Bg true) change deadline mark) (λ a b c d e f g h i j k l m n o p q r s t is. rw is refl) ds ms x y
 write_at Bg false change deadline mark ds ms other x y = by_tens (WritesAt (lane Bg false) change deadline mark) (λ a b c d e f g h i j k l m n o p q r s t is. rw is refl) ds ms x y
 
--- a change that leaves the windows at a lane's place leaves all
+-- a change that leaves the windows at a lane's index leaves all
 abbrev StaysAt : Lane → (LaneState → LaneState) → List ℕ → List Marks → Type 0
 StaysAt at change ds ms =
-    change (slice_index_or (windows_over ds ms) (place_of at) (new_lane at)) ≡ slice_index_or (windows_over ds ms) (place_of at) (new_lane at)
+    change (slice_index_or (windows_over ds ms) (index_of_lane at) (new_lane at)) ≡ slice_index_or (windows_over ds ms) (index_of_lane at) (new_lane at)
     → windows_over ds ms ≡ at_lane at change (windows_over ds ms)
 
 pub stays_at : (b : Bucket) (bound : Bool) (change : LaneState → LaneState) (ds : List ℕ) (ms : List Marks) → (b ≡ Ui → ⊥) → length ds ≡ 10 → length ms ≡ 10
