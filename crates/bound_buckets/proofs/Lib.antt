@@ -1,2 +1,3 @@
 pub mod LanePriorities
 pub mod Above
+pub mod Units

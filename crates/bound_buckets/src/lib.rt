@@ -10,6 +10,8 @@ ghost use Rattle.flat_policy.specs.Policy.Usage.{bound_score};
 ghost use Rattle.flat_policy.specs.Policy.Windows.{above_ui};
 ghost use Rattle.bound_buckets.specs.Tops.{above_ui_of, at_least, greater_of, tops_of};
 
+pub mod laws;
+
 pub use sched_base::Bucket;
 
 /// The greatest unit priorities of the lanes of `Ui` and `Fg`; `None` for an empty lane.

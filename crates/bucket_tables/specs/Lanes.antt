@@ -1,8 +1,12 @@
--- The timeshare lanes in their order.
+-- The buckets and the timeshare lanes in their order.
 use Rattle.std.specs.Prelude.{Bool, List, [], false, true, ◌∷◌}
 use Rattle.sched_base.specs.declared.buckets.Bucket.{Bucket}
-use Rattle.sched_base.specs.declared.buckets.Bucket.TheVariants.{Fg, Ini, Df, Ut, Bg}
+use Rattle.sched_base.specs.declared.buckets.Bucket.TheVariants.{Ui, Fg, Ini, Df, Ut, Bg}
 use Rattle.bucket_tables.specs.declared.Lane.{Lane}
+
+-- the six buckets, the highest first
+abbrev pub buckets_in_order : List Bucket
+buckets_in_order = Ui ∷ Fg ∷ Ini ∷ Df ∷ Ut ∷ Bg ∷ []
 
 -- the lane of a bucket, bound or unbound
 abbrev pub bucket_lane : Bucket → Bool → Lane

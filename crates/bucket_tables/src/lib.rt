@@ -8,7 +8,7 @@ pub mod lanes;
 pub mod table;
 pub mod times;
 
-pub use lanes::timeshare_lanes;
+pub use lanes::{all_buckets, timeshare_lanes};
 pub use sched_base::Bucket;
 pub use table::Table;
 pub use times::{quantum, version_one, warp, wcel};

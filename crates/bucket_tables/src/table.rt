@@ -1,6 +1,6 @@
 //! Tables of numbers.
 
-ghost use Rattle.std.specs.Prelude.{◌≡◌, ◌<◌, [], replicate, slice_index, slice_index_or, slice_set};
+ghost use Rattle.std.specs.Prelude.{◌≡◌, ◌<◌, All, [], length, replicate, slice_index, slice_index_or, slice_set};
 
 use std::marker::Model;
 
@@ -12,11 +12,13 @@ pub struct Table<const R: usize, const C: usize> {
 }
 
 impl<const R: usize, const C: usize> Model for Table<R, C> {
-    ghost use Rattle.std.specs.Prelude.{List, ℕ};
+    ghost use Rattle.std.specs.Prelude.{◌≡◌, All, List, length, ℕ};
 
     ghost Value = { List (List ℕ) };
 
     ghost view = { λ table. table.rows };
+
+    ghost invariant = { λ table. All (λ row. length row ≡ C) table.rows };
 
     ghost inverse = { λ rows. record { rows = rows } };
 }
@@ -27,6 +29,14 @@ impl<const R: usize, const C: usize> Table<R, C> {
         ensures { result ≡ replicate R (replicate C v) }
     {
         Table { rows: [[v; C]; R] }
+    }
+
+    /// Does nothing. It tells a proof what every table keeps: it has `R` rows of `C` numbers.
+    pub fn keeps_shape(&self)
+        ensures rows { length self.now ≡ R }
+        ensures columns { All (λ row. length row ≡ C) self.now }
+    {
+        let _rows = &self.rows;
     }
 
     /// The number in row `r` and column `c`, both counted from 0.

@@ -4,6 +4,7 @@ ghost use Rattle.std.specs.Prelude.{◌≡◌, ◌∷◌, []};
 ghost use Rattle.bucket_tables.specs.Tables.{by_bucket, quantum_of, warp_of, wcel_of};
 
 use sched_base::Bucket;
+use sched_base::limits::BUCKET_COUNT;
 
 /// How long after it fills a lane of the bucket is to be served, in microseconds; 0 for `Ui`,
 /// where it is unused.
@@ -49,10 +50,10 @@ pub fn quantum(b: Bucket) -> u64
 
 /// The times of version 1 in three rows, WCEL, WARP and QUANTUM, each by bucket index, in
 /// microseconds.
-pub fn version_one() -> [[u64; 6]; 3]
+pub fn version_one() -> [[u64; BUCKET_COUNT]; 3]
     ensures { result ≡ by_bucket wcel_of ∷ by_bucket warp_of ∷ by_bucket quantum_of ∷ [] }
 {
-    let mut times = [[0; 6]; 3];
+    let mut times = [[0; BUCKET_COUNT]; 3];
     crate::each_bucket!(bucket => {
         let column = bucket.index() as usize;
         times[0][column] = wcel(bucket);

@@ -1,11 +1,27 @@
 -- The tables of a setup, edge by edge.
-use Rattle.std.proofs.Common.{sym, drop, slice_get, zero, suc, ◌+◌, ◌≡◌, ◌≢◌, ◌<◌, ◌&&◌, ◌==◌, Bool, true, false, ℕ, List, [], ◌∷◌, cond, refl, ap, arith, ◌∙◌, Option, Some, None, find}
+use Rattle.std.proofs.Common.{sym, drop, slice_get, zero, suc, ◌+◌, ◌≡◌, ◌≢◌, ◌<◌, ◌&&◌, ◌==◌, Bool, true, false, ℕ, List, [], ◌∷◌, cond, get_or, set, replicate, refl, ap, arith, ◌∙◌, Option, Some, None, find}
 use Rattle.std.specs.Option.{option_map_or}
 use Rattle.std.proofs.lemmas.Bool.Decides.{nat_tests}
 use Rattle.flat_policy.specs.declared.setup.EdgeSpec.{EdgeSpec}
 use Rattle.flat_policy.specs.Policy.Setup.{SetupParts}
-use Rattle.edge_matrix.specs.EdgeTables.{EdgeTables, edges_of, no_edges, table_of, with_edge, with_number}
-use Rattle.edge_matrix.proofs.Tables.{table_of-but_one, table_of-zero}
+use Rattle.edge_matrix.specs.EdgeTables.{EdgeTables, edges_of, table_of}
+use Rattle.edge_matrix.proofs.Tables.{table_of-but_one, table_of-zero, with_number}
+
+-- the tables with one edge more, or another one in its place
+abbrev pub with_edge : EdgeSpec → EdgeTables → EdgeTables
+with_edge e t = record {
+  weights = with_number e.from e.to e.weight t.weights;
+  migrates = with_number e.from e.to (cond e.migrate 1 0) t.migrates;
+  steals = with_number e.from e.to e.steal t.steals;
+}
+
+-- the tables with no edge
+abbrev pub no_edges : EdgeTables
+no_edges = record {
+  weights = replicate 8 (replicate 8 0);
+  migrates = replicate 8 (replicate 8 0);
+  steals = replicate 8 (replicate 8 0);
+}
 
 -- whether an edge leads from one cluster to another
 abbrev pub leads : ℕ → ℕ → EdgeSpec → Bool
@@ -55,3 +71,14 @@ pub edges_of-more : (setup : SetupParts) (k : ℕ) (e : EdgeSpec) → slice_get 
 edges_of-more setup k e at row column =
     sym (edges_of-first setup e (drop (k + 1) setup.edges) row column)
     ∙ ap (λ (es : List EdgeSpec). edges_of (record setup { edges = es })) (sym (drop-get setup.edges k e at))
+
+-- three tables that each have the number of an edge put in
+pub put_edge : (e : EdgeSpec) (w m s w' m' s' : List (List ℕ)) → w' ≡ with_number e.from e.to e.weight w
+    → m' ≡ with_number e.from e.to (cond e.migrate 1 0) m → s' ≡ with_number e.from e.to e.steal s
+    → ◌≡◌ {A = EdgeTables} (record { weights = w'; migrates = m'; steals = s' }) (with_edge e (record { weights = w; migrates = m; steals = s }))
+put_edge e w m s w' m' s' is_w is_m is_s = rw (is_w, is_m, is_s) refl
+
+-- three tables of zeros
+pub put_none : (w m s : List (List ℕ)) → w ≡ replicate 8 (replicate 8 0) → m ≡ replicate 8 (replicate 8 0) → s ≡ replicate 8 (replicate 8 0)
+    → ◌≡◌ {A = EdgeTables} (record { weights = w; migrates = m; steals = s }) no_edges
+put_none w m s is_w is_m is_s = rw (is_w, is_m, is_s) refl

@@ -1,3 +1,4 @@
 pub mod Numbers
 pub mod Tables
 pub mod EdgeByEdge
+pub mod Ranges

@@ -4,8 +4,12 @@ use Rattle.std.proofs.lemmas.Grind.{common_steps}
 use Rattle.std.proofs.lemmas.Bool.Decides.{nat_tests}
 use Rattle.std.proofs.lemmas.List.{get_or-set_same, get_or-set_other}
 use Rattle.flat_policy.specs.Policy.Setup.{numbers_below}
-use Rattle.edge_matrix.specs.EdgeTables.{AllBelow, number_at, table_of, with_number}
+use Rattle.edge_matrix.specs.EdgeTables.{number_at, table_of}
 use Rattle.edge_matrix.proofs.Numbers.{get_or-map_numbers, map_numbers-but_one, map_numbers-same}
+
+-- a table with another number for a pair
+abbrev pub with_number : ℕ → ℕ → ℕ → List (List ℕ) → List (List ℕ)
+with_number i j number table = set table i (set (get_or table i []) j number)
 
 -- a row of a table
 pub get_or-table_of : (number : ℕ → ℕ → ℕ) (i : ℕ) → i < 8 → get_or (table_of number) i [] ≡ map (number i) (numbers_below 8)

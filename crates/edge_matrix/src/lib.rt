@@ -7,7 +7,8 @@ ghost use Rattle.std.specs.Prelude.{◌≡◌};
 ghost use Rattle.flat_policy.specs.Policy.Setup.{mask_has};
 
 use bucket_tables::Table;
-use flat_policy::setup::{EdgeSpec, Setup};
+use flat_policy::setup::Setup;
+use sched_base::limits::{MOST_CLUSTERS, STEAL_MASKS};
 use sched_base::{Bucket, Facts};
 use std::marker::Model;
 
@@ -15,24 +16,24 @@ use std::marker::Model;
 mod tests;
 
 /// The edges of a setup, by the cluster that an edge leaves and the cluster that it leads to.
-/// Contracts see three tables of numbers; those of a setup are `edges_of` it. It lies in place
-/// and takes no memory.
+/// Contracts see three tables of numbers, which are `edges_of` some setup: its own. It lies in
+/// place and takes no memory.
 #[derive(Clone, Copy)]
 pub struct Edges {
-    weights: Table<8, 8>,
+    weights: Table<MOST_CLUSTERS, MOST_CLUSTERS>,
     /// 1 where threads may move along the edge, and 0 where not.
-    migrates: Table<8, 8>,
-    steals: Table<8, 8>,
+    migrates: Table<MOST_CLUSTERS, MOST_CLUSTERS>,
+    steals: Table<MOST_CLUSTERS, MOST_CLUSTERS>,
 }
 
 impl Model for Edges {
-    ghost use Rattle.edge_matrix.specs.EdgeTables.{EdgeTables, FitTables};
+    ghost use Rattle.edge_matrix.specs.EdgeTables.{AreEdges, EdgeTables};
 
     ghost Value = { EdgeTables };
 
     ghost view = { λ edges. record { weights = edges.weights; migrates = edges.migrates; steals = edges.steals } };
 
-    ghost invariant = { λ edges. FitTables (record { weights = edges.weights; migrates = edges.migrates; steals = edges.steals }) };
+    ghost invariant = { λ edges. AreEdges (record { weights = edges.weights; migrates = edges.migrates; steals = edges.steals }) };
 
     ghost inverse = { λ tables. record { weights = tables.weights; migrates = tables.migrates; steals = tables.steals } };
 }
@@ -43,51 +44,35 @@ impl Edges {
     ghost use Rattle.flat_policy.specs.Policy.Offer.{MayTake, mask_between, may_take};
     ghost use Rattle.flat_policy.specs.Policy.Queue.{Flat};
     ghost use Rattle.flat_policy.specs.Policy.Setup.{SetupParts, edge_weight, migrates, steal_mask};
-    ghost use Rattle.edge_matrix.specs.EdgeTables.{edges_of, no_edges, with_edge};
+    ghost use Rattle.edge_matrix.specs.EdgeTables.{edges_of};
 
     /// The edges of a setup.
     pub fn of(setup: &Setup) -> Edges
         ensures { result ≡ edges_of setup.now }
     {
         setup.keeps_ranges();
-        let mut edges = Edges::none();
+        let mut weights = Table::filled(0);
+        let mut migrates = Table::filled(0);
+        let mut steals = Table::filled(0);
         for k in (0..setup.edge_count()).rev() {
-            edges.put(setup.edge_at(k));
+            let edge = setup.edge_at(k);
+            let (from, to) = (edge.from as usize, edge.to as usize);
+            weights.set(from, to, edge.weight as u64);
+            migrates.set(from, to, edge.migrate as u64);
+            steals.set(from, to, edge.steal as u64);
         }
-        edges
-    }
-
-    /// The tables with no edge.
-    fn none() -> Edges
-        ensures { result ≡ no_edges }
-    {
         Edges {
-            weights: Table::filled(0),
-            migrates: Table::filled(0),
-            steals: Table::filled(0),
+            weights,
+            migrates,
+            steals,
         }
-    }
-
-    /// Puts an edge in, in place of one with the same ends.
-    fn put(&mut self, edge: EdgeSpec)
-        requires from { edge.from < 8 }
-        requires to { edge.to < 8 }
-        requires mask { edge.steal < 64 }
-        ensures { self.new ≡ with_edge edge self.old }
-    {
-        let from = edge.from as usize;
-        let to = edge.to as usize;
-        self.weights.set(from, to, edge.weight as u64);
-        self.migrates
-            .set(from, to, if edge.migrate { 1 } else { 0 });
-        self.steals.set(from, to, edge.steal as u64);
     }
 
     /// The weight of the edge from cluster `i` to cluster `j`, in microseconds; 0 for a missing
     /// edge.
     pub fn weight(&self, i: u8, j: u8) -> u32
-        requires from { i < 8 }
-        requires to { j < 8 }
+        requires from { i < MOST_CLUSTERS }
+        requires to { j < MOST_CLUSTERS }
         ensures { (setup : SetupParts) → self.now ≡ edges_of setup → result ≡ edge_weight setup i j }
     {
         self.weights.get(i as usize, j as usize) as u32
@@ -96,8 +81,8 @@ impl Edges {
     /// Whether threads may move along the edge from cluster `i` to cluster `j`. They may not along
     /// a missing edge.
     pub fn migrate(&self, i: u8, j: u8) -> bool
-        requires from { i < 8 }
-        requires to { j < 8 }
+        requires from { i < MOST_CLUSTERS }
+        requires to { j < MOST_CLUSTERS }
         ensures { (setup : SetupParts) → self.now ≡ edges_of setup → result ≡ migrates setup i j }
     {
         self.migrates.get(i as usize, j as usize) == 1
@@ -106,19 +91,35 @@ impl Edges {
     /// The bucket indices that may be stolen along the edge from cluster `i` to cluster `j`, as
     /// the bits of a number below 64; 0 for a missing edge.
     pub fn steal(&self, i: u8, j: u8) -> u8
-        requires from { i < 8 }
-        requires to { j < 8 }
+        requires from { i < MOST_CLUSTERS }
+        requires to { j < MOST_CLUSTERS }
         ensures mask { (setup : SetupParts) → self.now ≡ edges_of setup → result ≡ steal_mask setup i j }
-        ensures below { result < 64 }
+        ensures below { result < STEAL_MASKS }
     {
         self.steals.get(i as usize, j as usize) as u8
+    }
+
+    /// The bucket indices that cluster `to` may take from cluster `from`, which is on or off, as the
+    /// bits of a number below 64: all six where `from` is off and threads may move along the edge,
+    /// and otherwise those of the edge.
+    pub fn mask(&self, from: u8, to: u8, on: bool) -> u8
+        requires from { from < MOST_CLUSTERS }
+        requires to { to < MOST_CLUSTERS }
+        ensures mask { (setup : SetupParts) → self.now ≡ edges_of setup → result ≡ mask_between setup from to on }
+        ensures below { result < STEAL_MASKS }
+    {
+        if !on && self.migrate(from, to) {
+            STEAL_MASKS - 1
+        } else {
+            self.steal(from, to)
+        }
     }
 
     /// Whether a thread may enter cluster `c`: a bound one the cluster that it is bound to, and an
     /// unbound one its preferred cluster and those that it may move to from there.
     pub fn may_enter(&self, t: &Facts, c: u8) -> bool
-        requires preferred { t.now.prefer < 8 }
-        requires cluster { c < 8 }
+        requires preferred { t.now.prefer < MOST_CLUSTERS }
+        requires cluster { c < MOST_CLUSTERS }
         ensures { (setup : SetupParts) → self.now ≡ edges_of setup → result ≡ may_enter setup t.now c }
     {
         match t.bound {
@@ -130,8 +131,8 @@ impl Edges {
     /// Whether cluster `c` may take a thread that is queued at cluster `j`: an unbound one that
     /// prefers `c` where threads may move there, or whose bucket index is in the mask.
     pub fn may_take(&self, j: u8, c: u8, mask: u8, t: &Facts) -> bool
-        requires from { j < 8 }
-        requires to { c < 8 }
+        requires from { j < MOST_CLUSTERS }
+        requires to { c < MOST_CLUSTERS }
         ensures takes { (setup : SetupParts) → self.now ≡ edges_of setup → result ≡ may_take c (migrates setup j c) mask t.now }
         // by the mask of the edge, as the cluster that offers is on or off
         ensures offers { (setup : SetupParts) (s : Flat) → self.now ≡ edges_of setup → mask ≡ mask_between setup j c s.on → IsTrue result ↔ MayTake setup j c s t.now }

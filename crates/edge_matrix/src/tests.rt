@@ -57,6 +57,15 @@ fn edges_of_a_setup(rt: HostRuntime) -> Result<(), std::test::Fail> {
         (edges.steal(0, 1), edges.steal(1, 0), edges.steal(2, 1)),
         (16, 0, 0)
     );
+    assert_eq!(rt;
+        (
+            edges.mask(0, 1, true),
+            edges.mask(0, 1, false),
+            edges.mask(1, 0, true),
+            edges.mask(1, 1, false)
+        ),
+        (16, 63, 0, 0)
+    );
     Ok(())
 }
 

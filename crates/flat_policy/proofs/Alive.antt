@@ -1,5 +1,5 @@
 -- The names made in a history are made once each, so that those alive are those made and not ended.
-use Rattle.std.proofs.Common.{◌≡◌, ◌⊎◌, ℕ, ◌+◌, ◌-◌, ◌≤◌, ◌==◌, ◌||◌, Bool, true, false, not, cond, List, [], ◌∷◌, ◌++◌, count_by, length, refl, sym, ap, ◌∙◌, subst, inl, inr, arith, append-nil, eq-eqb, eqb-true}
+use Rattle.std.proofs.Common.{◌≡◌, ◌⊎◌, ℕ, ◌+◌, ◌≤◌, ◌==◌, ◌||◌, Bool, true, false, not, cond, List, [], ◌∷◌, ◌++◌, count_by, length, refl, sym, ap, ◌∙◌, subst, inl, inr, arith, append-nil, eq-eqb, eqb-true}
 use Rattle.std.specs.List.{list_any}
 use Rattle.std.proofs.lemmas.Bool.{cases_Bool}
 use Rattle.std.proofs.lemmas.List.Sums.{sum_by-cons, sum_by_push}
@@ -7,10 +7,10 @@ use Rattle.sched_base.specs.declared.Entry.{Entry}
 use Rattle.flat_policy.specs.Laws.Counts.{EachNameOnce}
 use Rattle.flat_policy.specs.Laws.Places.{names_alive}
 use Rattle.flat_policy.specs.Laws.Sound.{Sound}
-use Rattle.flat_policy.specs.Policy.Machine.{GRun, MachineState, RunsFrom, Yard, empty_machine, expected_count, live_count, place_count, state_after}
+use Rattle.flat_policy.specs.Policy.Machine.{GRun, MachineState, RunsFrom, Yard, empty_machine, live_count, state_after}
 use Rattle.flat_policy.specs.Policy.Setup.{SetupParts}
 use Rattle.flat_policy.proofs.Accepted.{step_goes}
-use Rattle.flat_policy.proofs.Prefixes.{counted}
+use Rattle.flat_policy.proofs.PlaceOf.{counted}
 use Rattle.flat_policy.proofs.Placed.{sum_by_alike}
 use Rattle.flat_policy.proofs.Runs.{empty_sound, reached}
 use Rattle.flat_policy.proofs.SoundParts.{Goes}

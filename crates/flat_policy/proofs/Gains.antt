@@ -1,6 +1,6 @@
 -- Against one preferred load the lightest target is the one of the greatest difference.
-use Rattle.std.proofs.Common.{◌≡◌, ℕ, ◌<◌, ◌-◌, nat_lt, Bool, true, ◌&&◌, ◌||◌, ◌==◌, Contains, List, filter, ap₂, arith, eq-eqb, eqb-true, ltb-true, lt-ltb}
-use Rattle.flat_policy.specs.Laws.Aims.{gain, gains_more}
+use Rattle.std.proofs.Common.{◌≡◌, ℕ, ◌<◌, ◌-◌, nat_lt, ◌&&◌, ◌||◌, ◌==◌, Contains, List, filter, ap₂, arith, eq-eqb, eqb-true, ltb-true, lt-ltb}
+use Rattle.flat_policy.specs.Laws.Aims.{gains_more}
 use Rattle.flat_policy.specs.Policy.Aim.{Target, lighter}
 use Rattle.flat_policy.specs.Policy.Unpreceded.{unpreceded}
 use Rattle.flat_policy.proofs.ByMembers.{choice_alike}

@@ -36,7 +36,7 @@ pub leaving_goes : (setup : SetupParts) (g : MachineState) (a c now : ℕ) (e : 
 leaving_goes setup g a c now e sound ain cin soon fit same =
     goes_flat setup g a c (kept_hand (hand_at g a) now) e.flat sound ain cin (kept_fits setup (hand_at g a) now soon (sound.hands a ain)) fit (λ p. omega (arith, same p))
 
-touched_fits : (setup : SetupParts) (s : Flat) (now : ℕ) → now < moment_limit → FlatFits setup s → FlatFits setup (touched now s)
+pub touched_fits : (setup : SetupParts) (s : Flat) (now : ℕ) → now < moment_limit → FlatFits setup s → FlatFits setup (touched now s)
 touched_fits setup s now soon fit = flat_fits setup (touched now s) (flat_parts setup s fit) fit.threads soon
 
 pub power_goes : (setup : SetupParts) (g : MachineState) (a c now : ℕ) (on : Bool) → Sound setup g → a < actor_count setup → c < cluster_count setup → now < moment_limit → Goes setup g (leaving_hand g a (hand_at g a) c now (power_event on now (flat_at g c))).state
@@ -65,7 +65,7 @@ repriced_fits setup s now e fit =
       pending_blocked = fit.pending_blocked;
     })
 
-refreshed_flat : (setup : SetupParts) (s : Flat) (now : ℕ) → now < moment_limit → FlatFits setup s → FlatFits setup (refreshed (group_count setup) s now)
+pub refreshed_flat : (setup : SetupParts) (s : Flat) (now : ℕ) → now < moment_limit → FlatFits setup s → FlatFits setup (refreshed (group_count setup) s now)
 refreshed_flat setup s now soon fit =
     flat_fits setup (refreshed (group_count setup) s now)
     (refreshed_fits (group_count setup) s now (flat_parts setup s fit))

@@ -17,18 +17,18 @@ use Rattle.flat_policy.proofs.Members.{any_from_member, member_of_filter}
 use Rattle.flat_policy.proofs.Precedes.{precedes_irreflexive, precedes_total, precedes_transitive}
 use Rattle.flat_policy.proofs.Units.{order_alike, unit_strict, unit_total}
 
-turn_irreflexive : (t : Option ℕ) → turn_before t t ≡ false
+pub turn_irreflexive : (t : Option ℕ) → turn_before t t ≡ false
 turn_irreflexive None = refl
 turn_irreflexive (Some a) = le-ltb a a (omega arith)
 
-turn_transitive : (t u v : Option ℕ) → turn_before t u ≡ true → turn_before u v ≡ true → turn_before t v ≡ true
+pub turn_transitive : (t u v : Option ℕ) → turn_before t u ≡ true → turn_before u v ≡ true → turn_before t v ≡ true
 turn_transitive None u v h k = absurd (false≢true h)
 turn_transitive (Some a) None v h k = absurd (false≢true h)
 turn_transitive (Some a) (Some b) None h k = absurd (false≢true k)
 turn_transitive (Some a) (Some b) (Some c) h k = less_transitive a b c h k
 
 -- turns that are there and differ go one before the other
-turns_apart : (t u : Option ℕ) → is_some t ≡ true → is_some u ≡ true → TurnsDiffer t u → turn_before t u ≡ false → turn_before u t ≡ false → ⊥
+pub turns_apart : (t u : Option ℕ) → is_some t ≡ true → is_some u ≡ true → TurnsDiffer t u → turn_before t u ≡ false → turn_before u t ≡ false → ⊥
 turns_apart None u it iu differ h k = false≢true it
 turns_apart (Some a) None it iu differ h k = false≢true iu
 turns_apart (Some a) (Some b) it iu differ h k = differ (omega (arith, ltb-false a b h, ltb-false b a k))
@@ -59,7 +59,7 @@ unit_same b x y ux uy h =
       | inr e ↦ clutch_is x.facts.group y.facts.group x.facts.bucket y.facts.bucket (eqb-true x.facts.group y.facts.group e) (ux.1 ∙ sym uy.1)
     ]
 
-unit_joined : (x y : Queued) → clutch_of x.facts ≡ clutch_of y.facts → in_one_unit x.facts y.facts ≡ true
+pub unit_joined : (x y : Queued) → clutch_of x.facts ≡ clutch_of y.facts → in_one_unit x.facts y.facts ≡ true
 unit_joined x y e = or_right (is_some x.facts.bound) (x.facts.group == y.facts.group) (eq-eqb x.facts.group y.facts.group (ap (λ (k : Clutch). k.group) e))
 
 pub unbound_strict : (s : Flat) (b : Bucket) → StrictOn (UnboundOf b) (precedes_in_lane s)
@@ -77,7 +77,7 @@ unbound_strict s b =
 eqb_turned : (a b : ℕ) → (a == b) ≡ (b == a)
 eqb_turned a b = grind arith
 
-one_unit_turned : (x y : Queued) → is_some x.facts.bound ≡ is_some y.facts.bound → in_one_unit x.facts y.facts ≡ in_one_unit y.facts x.facts
+pub one_unit_turned : (x y : Queued) → is_some x.facts.bound ≡ is_some y.facts.bound → in_one_unit x.facts y.facts ≡ in_one_unit y.facts x.facts
 one_unit_turned x y e = ap₂ (λ (a b : Bool). a || b) e (eqb_turned x.facts.group y.facts.group)
 
 pub unbound_total : (groups : ℕ) (s : Flat) → WellFormed groups s → (b : Bucket) (x y : Queued) → Contains s.entries x → Contains s.entries y → UnboundOf b x → UnboundOf b y → precedes_in_lane s x y ≡ false → precedes_in_lane s y x ≡ false → x ≡ y

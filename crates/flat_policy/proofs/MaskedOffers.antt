@@ -1,5 +1,5 @@
 -- What is offered by the mask, found by lane.
-use Rattle.std.proofs.Common.{◌≡◌, ℕ, ◌<◌, nat_lt, Bool, true, false, not, ◌&&◌, ◌||◌, ◌==◌, Contains, List, filter, Some, None, is_some, refl, sym, ap, ◌∙◌, inl, inr, arith, eqb-true}
+use Rattle.std.proofs.Common.{◌≡◌, ℕ, nat_lt, true, false, ◌&&◌, ◌||◌, ◌==◌, Contains, filter, None, is_some, refl, sym, ap, ◌∙◌, inl, inr, eqb-true}
 use Rattle.std.specs.List.{list_any}
 use Rattle.std.proofs.lemmas.Bool.{and_from, and_parts, and_right, cases_Bool, false_from_ne_true, false≢true, ltb-true, not-true, not_from_false, or_from}
 use Rattle.std.proofs.lemmas.List.Elements.{All-contains}

@@ -68,7 +68,7 @@ offer_out setup s from to now soon fit =
     let stands : (e : Queued) → o ≡ Some e → Contains s.entries e = λ e h. (offered_stands to (migrates setup from to) (mask_between setup from to s.on) s e h).0 in
     moves_out setup s (flat_after_offer now s o) o fit (after_offer_fits (group_count setup) now s o (flat_parts setup s fit) stands) (omega (arith, soon, (offer_reaches now s o).last)) (after_offer_entries now s o) stands
 
-pull_out : (setup : SetupParts) (s : Flat) (e : Queued) (now : ℕ) → now < moment_limit → FlatFits setup s → Contains s.entries e → MovesOut setup s (removed e now s) (Some e.facts)
+pub pull_out : (setup : SetupParts) (s : Flat) (e : Queued) (now : ℕ) → now < moment_limit → FlatFits setup s → Contains s.entries e → MovesOut setup s (removed e now s) (Some e.facts)
 pull_out setup s e now soon fit c =
     moves_out setup s (removed e now s) (Some e) fit (removed_fits (group_count setup) e now s (flat_parts setup s fit) c) (omega (arith, soon, (removed_reaches e now s).last)) (removed_entries e now s)
     (λ f h. subst (Contains s.entries) (same_Some e f h) c)
@@ -117,7 +117,7 @@ settled_fits setup now t f = record {
   pending_blocked = omega arith;
 }
 
-enter_flat : (setup : SetupParts) (s : Flat) (c : ℕ) (t : Facts) (head : Bool) (now : ℕ) → now < moment_limit → FlatFits setup s → ThreadFits setup t → FlatFits setup (entered (cluster_times setup c) t head now s)
+pub enter_flat : (setup : SetupParts) (s : Flat) (c : ℕ) (t : Facts) (head : Bool) (now : ℕ) → now < moment_limit → FlatFits setup s → ThreadFits setup t → FlatFits setup (entered (cluster_times setup c) t head now s)
 enter_flat setup s c t head now soon fit tf =
     flat_fits setup (entered (cluster_times setup c) t head now s)
     (entered_fits setup (cluster_times setup c) t head now s (flat_parts setup s fit) tf)

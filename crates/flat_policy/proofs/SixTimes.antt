@@ -1,5 +1,5 @@
 -- The six times of a cluster, read one by one.
-use Rattle.std.proofs.Common.{◌≡◌, ℕ, ◌<◌, List, [], ◌∷◌, length, get_or, refl, ◌∙◌, arith}
+use Rattle.std.proofs.Common.{◌≡◌, ℕ, ◌<◌, List, [], ◌∷◌, length, get_or, refl, arith}
 use Rattle.sched_base.specs.declared.Bucket.TheVariants.{Bg, Df, Fg, Ini, Ui, Ut}
 use Rattle.flat_policy.specs.Policy.BuiltSetups.{IsClusterTimes, IsSetup}
 use Rattle.flat_policy.specs.Policy.Setup.{SetupParts, cluster_count, cluster_times, no_times, times_for}

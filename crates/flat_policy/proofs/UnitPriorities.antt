@@ -1,20 +1,19 @@
 -- The priority of a lane, found by its units or in one pass over its entries.
-use Rattle.std.proofs.Common.{◌≡◌, ℕ, ◌+◌, ◌≤◌, nat_lt, max, int_lt, Bool, true, false, ◌&&◌, ◌||◌, ◌==◌, cond, Contains, List, [], ◌∷◌, fold, map, Some, is_some, refl, sym, ap, ◌∙◌, subst, inl, inr, arith, ltb-true, ltb-false}
-use Rattle.std.specs.List.{list_any}
+use Rattle.std.proofs.Common.{◌≡◌, ℕ, ◌+◌, ◌≤◌, nat_lt, max, int_lt, true, false, ◌&&◌, ◌==◌, cond, Contains, List, [], ◌∷◌, fold, map, Some, is_some, refl, sym, ap, ◌∙◌, subst, inl, inr, arith, ltb-true, ltb-false}
 use Rattle.std.proofs.lemmas.Bool.{cases_Bool, cond-false, cond-true, or_parts}
 use Rattle.std.proofs.lemmas.List.Elements.{All-contains}
 use Rattle.sched_base.specs.declared.Bucket.{Bucket}
 use Rattle.sched_base.specs.declared.Facts.{Facts}
 use Rattle.bucket_tables.specs.declared.Lane.{Lane}
-use Rattle.flat_policy.specs.Laws.Units.{IsFirstClutch, LanePriorities, unit_score}
+use Rattle.flat_policy.specs.Laws.Units.{IsFirstClutch, LanePriorities, scored, unit_score}
 use Rattle.flat_policy.specs.Policy.Precedence.{bound_priority, clutch_precedes, clutch_priority, greatest, greatest_pri, in_one_unit, precedes, precedes_in_lane, turn_before, unit_priority}
 use Rattle.flat_policy.specs.Policy.Queue.{Clutch, Flat, Queued, clutch_entries, clutch_of, has_entries, in_clutch, in_lane, lane, lane_entries, spans_of, turn_of, unit_entries}
 use Rattle.flat_policy.specs.Policy.Unpreceded.{unpreceded}
 use Rattle.flat_policy.specs.Policy.Usage.{bound_score, score}
 use Rattle.flat_policy.specs.Policy.WellFormed.{WellFormed}
 use Rattle.flat_policy.specs.Policy.Windows.{lane_priority}
-use Rattle.flat_policy.proofs.Buckets.{in_clutch_parts, in_own_clutch, in_own_lane}
-use Rattle.flat_policy.proofs.ByUnit.{in_lane_from}
+use Rattle.flat_policy.proofs.Buckets.{in_clutch_parts, in_own_clutch}
+use Rattle.flat_policy.proofs.ByUnit.{first_in_clutch, in_lane_from}
 use Rattle.flat_policy.proofs.Choice.{is_unpreceded, strict_from_order, there_under_strict}
 use Rattle.flat_policy.proofs.Chosen.{has_from_member}
 use Rattle.flat_policy.proofs.Greatest.{greatest_at_least}
@@ -205,10 +204,6 @@ of_unit s t e c =
           })
     ]
 
--- an entry with the score of its unit
-abbrev scored : Flat → Queued → ℕ
-scored s e = e.pri + unit_score s e.facts
-
 -- the priority of an entry's unit is that of one of the unit, with the score
 unit_reached : (s : Flat) (at : Lane) (e : Queued) → Contains (lane_entries s at) e → (f : Queued) × Contains (lane_entries s at) f × (unit_priority s e.facts ≤ scored s f)
 unit_reached s at e c =
@@ -236,3 +231,29 @@ by_entries s at =
       greatest_below (λ (e : Queued). unit_priority s e.facts) (scored s) (lane_entries s at) (unit_reached s at),
       greatest_below (scored s) (λ (e : Queued). unit_priority s e.facts) (lane_entries s at) (scored_within s at),
     )
+
+-- entries of one lane and unit have one score
+pub of_one_unit : (s : Flat) (at : Lane) (f e : Queued) → Contains (lane_entries s at) f → Contains (lane_entries s at) e → in_one_unit f.facts e.facts ≡ true → unit_score s f.facts ≡ unit_score s e.facts
+of_one_unit s at f e cf ce one =
+    let lf = lane_member s at f cf in
+    let le = lane_member s at e ce in
+    elim (cases_Bool at.bound) [
+      | inl b ↦ bound_score_same s f.facts e.facts (lf.3 ∙ b) (le.3 ∙ b) (lf.2 ∙ sym le.2)
+      | inr b ↦ free_score_same s f.facts e.facts (lf.3 ∙ b) (le.3 ∙ b) (unit_same at.bucket f e (lf.3 ∙ b, lf.2) (le.3 ∙ b, le.2) one)
+    ]
+
+-- an unbound entry with the score of its unit has no more than the priority of its clutch bucket
+pub scored_within_clutch : (s : Flat) (f : Queued) → Contains s.entries f → is_some f.facts.bound ≡ false → scored s f ≤ clutch_priority s (clutch_of f.facts)
+scored_within_clutch s f c free =
+    let least = greatest_at_least (λ (x : Queued). x.pri) 0 (unit_entries s f.facts) f (in_own_unit s f c) in
+    omega (arith, least, unit_parts s f.facts, free_unit s f.facts free)
+
+-- the first of an unbound lane has that priority
+pub scored_first : (groups : ℕ) (s : Flat) (at : Lane) → WellFormed groups s → (e : Queued) → at.bound ≡ false → unpreceded (precedes_in_lane s) (lane_entries s at) ≡ Some e → scored s e ≡ clutch_priority s (clutch_of e.facts)
+scored_first groups s at w e free h =
+    let k = first_clutch_of s at e free h in
+    let top = first_has_greatest (clutch_entries s (clutch_of e.facts)) e (sym (first_in_clutch groups s at (clutch_of e.facts) w free k) ∙ h) in
+    let l = lane_member s at e (is_unpreceded (precedes_in_lane s) (lane_entries s at) e h).member in
+    let is : unit_score s e.facts ≡ score (spans_of s (clutch_of e.facts)).used (spans_of s (clutch_of e.facts)).blocked e.facts.bucket =
+    cond-false (is_some e.facts.bound) (bound_score e.facts.bucket) (score (spans_of s (clutch_of e.facts)).used (spans_of s (clutch_of e.facts)).blocked e.facts.bucket) (l.3 ∙ free) in
+    omega (arith, top, is)

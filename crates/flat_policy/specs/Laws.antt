@@ -1,5 +1,6 @@
 -- Laws that show that the definitions say what is meant, as statements.
 pub mod Choice
+pub mod Clusters
 pub mod Steps
 pub mod Picks
 pub mod Kept

@@ -1,17 +1,20 @@
 //! Laws that show that the definitions say what is meant. Each is the contract of a function that does nothing.
 
 ghost use Rattle.flat_policy.specs.Laws.Choice.{ChoiceIsOne, ChoiceGoesByMembers};
+ghost use Rattle.flat_policy.specs.Laws.Clusters.{CallsKeepClusters, EntriesLeaveByPlace};
 ghost use Rattle.flat_policy.specs.Laws.Kept.{EmptyIsWellFormed, HistoriesKeepWellFormed, StepsKeepWellFormed, StepsRiseByFew};
 ghost use Rattle.flat_policy.specs.Laws.Aims.{AimMayBeEntered, LightestGainsMost};
 ghost use Rattle.flat_policy.specs.Laws.Offers.{MaskedOffersByLane, OffersAreOne, OffersWhatMayBeTaken};
 ghost use Rattle.flat_policy.specs.Laws.Orders.{LanesAreOrdered, TargetsAreOrdered};
-ghost use Rattle.flat_policy.specs.Laws.Units.{FilledLaneHasFirstClutch, FirstHasGreatestPriority, FirstOfBoundLane, FirstStandsInClutch, LanePrioritiesAreOfUnits, LanePriorityByEntries, PickStandsInLane};
+ghost use Rattle.flat_policy.specs.Laws.Units.{FilledLaneHasFirstClutch, FirstGoesByKeys, FirstHasGreatestPriority, FirstOfBoundLane, FirstStandsInClutch, LanePrioritiesAreOfUnits, LanePriorityByEntries, PickStandsInLane};
 ghost use Rattle.flat_policy.specs.Laws.Picks.{PrecedesOrders, GoesBeforeOrders, ChoosesAFilledLane, PickIsOne};
 ghost use Rattle.flat_policy.specs.Laws.Sound.{EmptyIsSound, FittingPrefersAmong, StepsKeepSound};
+ghost use Rattle.flat_policy.specs.Laws.Loads.{LoadIsNotRefused, LoadSleepsOne};
 ghost use Rattle.flat_policy.specs.Laws.Places.{LiveIsMadeNotEnded, PlaceIsTheOne, PrefixesAreHistories, TakersMayTake, WholeRunsKeepPlaces};
 ghost use Rattle.flat_policy.specs.Laws.Refreshing.{RefreshesByBucket};
 ghost use Rattle.flat_policy.specs.Laws.Windows.{SetupsHaveQuanta};
 ghost use Rattle.flat_policy.specs.Laws.Counts.{StepsKeepCounts, RunsKeepCounts, RunsStaySound, RunsStayWithin};
+ghost use Rattle.flat_policy.specs.Policy.Queue.{Queued};
 ghost use Rattle.flat_policy.specs.Laws.Steps.{ExpiresOnce, RefusalsChangeNothing};
 
 /// Windows that expire twice at one moment are as after once.
@@ -28,6 +31,11 @@ pub fn refusals_change_nothing()
 /// where there are members, is the only such one, and is what one pass over the list finds.
 pub fn choice_is_one<T>()
     ensures { ChoiceIsOne T }
+{}
+
+/// The same of entries of a queue.
+pub fn choice_of_entries_is_one()
+    ensures { ChoiceIsOne Queued }
 {}
 
 /// Under a strict order the choice goes by the members alone, and not by where they stand.
@@ -219,4 +227,30 @@ pub fn takers_may_take()
 /// After each prefix of a whole run every name that was made stands in exactly one place.
 pub fn whole_runs_keep_places()
     ensures { WholeRunsKeepPlaces }
+{}
+
+/// No step of the load is refused.
+pub fn load_is_not_refused()
+    ensures { LoadIsNotRefused }
+{}
+
+/// At most one thread of the load sleeps.
+pub fn load_sleeps_one()
+    ensures { LoadSleepsOne }
+{}
+
+/// The first of a lane is found in one pass over its entries, by the priority with the score of the unit, then the
+/// turn of the unit, and in one unit the order number.
+pub fn first_goes_by_keys()
+    ensures { FirstGoesByKeys }
+{}
+
+/// After each call every cluster keeps what it kept before.
+pub fn calls_keep_clusters()
+    ensures { CallsKeepClusters }
+{}
+
+/// An entry leaves the entries, and its slot the slots, at its place.
+pub fn entries_leave_by_place()
+    ensures { EntriesLeaveByPlace }
 {}

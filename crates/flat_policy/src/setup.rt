@@ -12,8 +12,8 @@ mod ranges;
 
 use bucket_tables::Table;
 use sched_base::limits::{
-    BUCKET_COUNT, LEAST_RATE, MOST_ACTORS, MOST_CLUSTERS, MOST_EDGES, MOST_GROUPS, MOST_RATE,
-    MOST_THREADS,
+    BUCKET_COUNT, LEAST_RATE, MOMENT_LIMIT, MOST_ACTORS, MOST_BASE, MOST_CLUSTERS, MOST_EDGES,
+    MOST_GROUPS, MOST_RATE, MOST_THREADS,
 };
 use sched_base::{Act, Bucket, Step};
 use std::alloc::AllocError;
@@ -265,14 +265,13 @@ impl Setup {
     }
 
     /// Whether the moment of a step is below 2^40, its base at most 127, and its actor, clusters,
-    /// group and bound cluster below the setup's counts.
+    /// group and bound cluster below the setup's counts. Its names and spans fit by their type.
     pub fn fits(&self, s: &Step) -> bool
         ensures { result ≡ fits_step self.now s.now }
     {
-        s.moment < 1 << 40 && s.actor < self.actors() && self.fits_act(s.act)
+        s.moment < MOMENT_LIMIT && s.actor < self.actors() && self.fits_act(s.act)
     }
 
-    /// The names and spans of an act fit by their type.
     fn fits_act(&self, act: Act) -> bool
         ensures fits { result ≡ fits_act self.now act }
         ensures numbers { IsTrue (numbers_fit act) }
@@ -284,7 +283,9 @@ impl Setup {
                 bound,
                 ..
             } => {
-                group < self.groups() && base <= 127 && bound.is_none_or(|c| c < self.clusters())
+                group < self.groups()
+                    && base <= MOST_BASE
+                    && bound.is_none_or(|c| c < self.clusters())
             }
             Act::Enter { cluster, .. }
             | Act::Offer { cluster }

@@ -1,8 +1,9 @@
 -- Looks, and how an aim follows from them.
-use Rattle.std.specs.Prelude.{Bool, true, Err, List, None, Ok, Option, Result, Some, fold, if◌then◌else◌, is_none, nat_lt, ◌&&◌, ◌||◌, ◌==◌, ℕ}
-use Rattle.flat_policy.specs.Policy.Aim.{Look, Target, off, lighter, loaded, look_at, target_at}
+use Rattle.std.specs.Prelude.{Bool, true, Err, List, None, Ok, Option, Result, Some, fold, if◌then◌else◌, is_none, nat_lt, take, ◌&&◌, ◌||◌, ◌==◌, ◌≡◌, ℕ}
+use Rattle.sched_base.specs.declared.Facts.{Facts}
+use Rattle.flat_policy.specs.Policy.Aim.{Look, Target, aim, off, lighter, loaded, look_at, not_looked, target_at}
 use Rattle.flat_policy.specs.Laws.Choice.{better}
-use Rattle.flat_policy.specs.Policy.Setup.{SetupParts, migrates}
+use Rattle.flat_policy.specs.Policy.Setup.{SetupParts, cluster_count, migrates}
 use Rattle.migration.specs.declared.looks.Note.{Note}
 use Rattle.migration.specs.declared.looks.Note.TheVariants.{Load, Off}
 use Rattle.migration.specs.declared.looks.Candidate.{Candidate}
@@ -17,6 +18,10 @@ abbrev pub noted : Option Note → Option Look
 noted None = None
 noted (Some n) = Some (seen n)
 
+-- the looks at the clusters of a setup, of which a hand of the machine keeps as many
+abbrev pub looks_among : SetupParts → List (Option Look) → List (Option Look)
+looks_among setup looks = take (cluster_count setup) looks
+
 -- an answer as the aim's
 abbrev pub aimed : Result ℕ LookFirst → Result ℕ ℕ
 aimed (Ok c) = Ok c
@@ -26,6 +31,11 @@ aimed (Err e) = Err e.cluster
 abbrev pub asked : Result ℕ LookFirst → Option ℕ
 asked (Ok c) = None
 asked (Err e) = Some e.cluster
+
+-- an answer is the aim by some looks: a cluster, or the lowest one that has to be looked at first
+pub record IsAim (setup : SetupParts) (looks : List (Option Look)) (t : Facts) (answer : Result ℕ LookFirst) : Type 0 where
+  pub aim : aimed answer ≡ aim setup looks t
+  pub look_first : asked answer ≡ not_looked setup looks t
 
 -- whether the preferred cluster, or one that a thread may move to from there, was not looked at
 abbrev pub lacks_look : SetupParts → List (Option Look) → ℕ → ℕ → Bool
@@ -45,7 +55,6 @@ is_below None n = true
 is_below (Some most) n = nat_lt n most
 
 -- a target that is lighter than a load, where there is one to be lighter than
-
 abbrev pub within : Option ℕ → Option Target → Option Target
 within most None = None
 within most (Some x) = if is_below most x.weighed then Some x else None

@@ -10,6 +10,7 @@ ghost use Rattle.migration.specs.Looks.{is_below, target_of, targeted, with_cand
 use crate::LookFirst;
 use edge_matrix::Edges;
 use sched_base::Facts;
+use sched_base::limits::MOST_CLUSTERS;
 use std::marker::Model;
 
 /// What a look at a cluster saw.
@@ -29,10 +30,11 @@ struct Candidate {
 }
 
 /// What was seen of the eight clusters since the looks were last forgotten. Contracts see a list
-/// of eight looks, or none, by cluster.
+/// of eight looks, or none, by cluster; those at a setup's clusters are `looks_among` them, which
+/// the machine's hands keep.
 #[derive(Debug, Drop)]
 pub struct Looks {
-    notes: [Option<Note>; 8],
+    notes: [Option<Note>; MOST_CLUSTERS],
 }
 
 impl Model for Looks {
@@ -50,36 +52,43 @@ impl Looks {
     ghost use Rattle.std.specs.Prelude.{◌≡◌, ◌<◌, None, Option, Some, ℕ, find, is_none, length, map, replicate, slice_set};
     ghost use Rattle.flat_policy.specs.Policy.Aim.{aim, aim_among, off, loaded, look_at, movable, needed_by, not_looked, targets};
     ghost use Rattle.flat_policy.specs.Policy.BuiltSetups.{IsSetup};
-    ghost use Rattle.flat_policy.specs.Policy.Setup.{SetupParts, numbers_below};
+    ghost use Rattle.flat_policy.specs.Policy.Machine.{no_looks};
+    ghost use Rattle.flat_policy.specs.Policy.Setup.{SetupParts, cluster_count, numbers_below};
     ghost use Rattle.edge_matrix.specs.EdgeTables.{edges_of};
-    ghost use Rattle.migration.specs.Looks.{aimed, asked, best_among, candidate_at, lacks_look, noted, targeted};
+    ghost use Rattle.migration.specs.Looks.{IsAim, best_among, candidate_at, lacks_look, looks_among, noted, targeted};
 
     /// No cluster was looked at.
     pub fn new() -> Looks
-        ensures { result ≡ replicate 8 None }
+        ensures none { result ≡ replicate MOST_CLUSTERS None }
+        ensures among { (setup : SetupParts) → IsSetup setup → looks_among setup result ≡ no_looks setup }
     {
-        Looks { notes: [None; 8] }
+        Looks {
+            notes: [None; MOST_CLUSTERS],
+        }
     }
 
     /// Forgets all looks.
     pub fn clear(&mut self)
-        ensures { self.new ≡ replicate 8 None }
+        ensures none { self.new ≡ replicate MOST_CLUSTERS None }
+        ensures among { (setup : SetupParts) → IsSetup setup → looks_among setup self.new ≡ no_looks setup }
     {
-        self.notes = [None; 8];
+        self.notes = [None; MOST_CLUSTERS];
     }
 
     /// Notes that cluster `c` was seen with a load, in microseconds. The other looks stay.
     pub fn note(&mut self, c: u8, load: u32)
-        requires { c < 8 }
-        ensures { self.new ≡ slice_set self.old c (Some (loaded load)) }
+        requires { c < MOST_CLUSTERS }
+        ensures noted { self.new ≡ slice_set self.old c (Some (loaded load)) }
+        ensures among { (setup : SetupParts) → c < cluster_count setup → looks_among setup self.new ≡ slice_set (looks_among setup self.old) c (Some (loaded load)) }
     {
         self.notes[c as usize] = Some(Note::Load(load));
     }
 
     /// Notes that cluster `c` was seen off. The other looks stay.
     pub fn note_off(&mut self, c: u8)
-        requires { c < 8 }
-        ensures { self.new ≡ slice_set self.old c (Some off) }
+        requires { c < MOST_CLUSTERS }
+        ensures noted { self.new ≡ slice_set self.old c (Some off) }
+        ensures among { (setup : SetupParts) → c < cluster_count setup → looks_among setup self.new ≡ slice_set (looks_among setup self.old) c (Some off) }
     {
         self.notes[c as usize] = Some(Note::Off);
     }
@@ -91,9 +100,9 @@ impl Looks {
     /// the lowest one: the preferred cluster and those that the thread may move to from there, or
     /// none where it may move to none or is bound.
     pub fn aim(&self, edges: &Edges, t: &Facts) -> Result<u8, LookFirst>
-        requires { t.now.prefer < 8 }
-        ensures aim { (setup : SetupParts) → IsSetup setup → edges.now ≡ edges_of setup → aimed result ≡ aim setup self.now t.now }
-        ensures look_first { (setup : SetupParts) → IsSetup setup → edges.now ≡ edges_of setup → asked result ≡ not_looked setup self.now t.now }
+        requires { t.now.prefer < MOST_CLUSTERS }
+        ensures aim { (setup : SetupParts) → IsSetup setup → edges.now ≡ edges_of setup → IsAim setup self.now t.now result }
+        ensures among { (setup : SetupParts) → IsSetup setup → edges.now ≡ edges_of setup → t.now.prefer < cluster_count setup → IsAim setup (looks_among setup self.now) t.now result }
     {
         if let Some(bound) = t.bound {
             return Ok(bound);

@@ -2,6 +2,7 @@
 pub mod Lists
 pub mod KnownBytes
 pub mod Newlines
-pub mod Windows
+pub mod Buffers
+pub mod Answering
 pub mod NextLines
 pub mod ToldBytes

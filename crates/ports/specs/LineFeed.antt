@@ -1,25 +1,22 @@
 -- What a feed of lines answers, by the bytes.
-use Rattle.std.specs.Prelude.{◌≡◌, ℕ, ◌+◌, ◌-◌, ◌<◌, ◌≤◌, List, [], ◌∷◌, ◌++◌, length, true, false, Option}
+use Rattle.std.specs.Prelude.{◌≡◌, ℕ, ◌+◌, ◌-◌, ◌<◌, ◌≤◌, Bool, List, [], ◌∷◌, ◌++◌, length, true, false, Option}
 use Rattle.std.specs.Io.KnownBytes.{IsAtEnd, prepend_known}
-use Rattle.ports.specs.Devices.{Rose}
+use Rattle.sched_base.specs.Limits.{input_bytes}
+use Rattle.ports.specs.Devices.{Rose, one_more}
 use Rattle.ports.specs.Feeds.{Feed}
 use Rattle.ports.specs.Lines.{HasNoNewline, IsLong, IsOver, IsOpen}
 use Rattle.ports.specs.declared.line_feed.Fed.{Fed}
 use Rattle.ports.specs.declared.line_feed.Fed.TheVariants.{Line, Long, Unfinished, End, Fault, Over}
 
--- how many bytes of an input count
-abbrev pub input_most : ℕ
-input_most = 67108864
-
 -- how many of the bytes behind those given still count
 abbrev pub counted : Feed → ℕ
-counted feed = input_most - feed.passed
+counted feed = input_bytes - feed.passed
 
 -- a line was given that is within the limit, and it and its newline count
 pub record GivesLine (limit : ℕ) (feed : Feed) : Type 0 where
   pub plain : HasNoNewline feed.line
   pub short : length feed.line ≤ limit
-  pub counts : feed.passed ≤ input_most
+  pub counts : feed.passed ≤ input_bytes
   pub open_still : feed.done ≡ false
 
 -- no line was given, and none will be
@@ -35,6 +32,20 @@ IsFed limit left before now feed Over = Stops feed × IsOver limit (counted feed
 IsFed limit left before now feed Unfinished = Stops feed × IsOpen limit (counted feed) feed.held × (0 < length feed.held) × IsAtEnd left
 IsFed limit left before now feed End = Stops feed × (feed.held ≡ []) × IsAtEnd left
 IsFed limit left before now feed Fault = Stops feed × IsOpen limit (counted feed) feed.held × Rose before now
+
+-- the next answer is at hand: the bytes that were taken decide it
+abbrev pub IsAtHand : ℕ → Feed → Type 0
+IsAtHand limit feed = ¬ (IsOpen limit (counted feed) feed.held)
+
+-- over a source that counts its failures exactly: one take failed and no take followed it where a fault is answered, and
+-- none failed where anything else is
+abbrev pub CountsFault : ℕ → ℕ → Bool → Fed → Type 0
+CountsFault before now failing Line = now ≡ before
+CountsFault before now failing Long = now ≡ before
+CountsFault before now failing Over = now ≡ before
+CountsFault before now failing Unfinished = now ≡ before
+CountsFault before now failing End = now ≡ before
+CountsFault before now failing Fault = (now ≡ one_more before) × (failing ≡ true)
 
 -- the bytes that are not given yet: those in hand, and those still to come, where they are told
 abbrev pub bytes_ahead : Feed → Option (List ℕ) → Option (List ℕ)
@@ -57,7 +68,7 @@ in_hand feed answer = given_by feed answer ++ feed.held
 abbrev pub decided_by : ℕ → Feed → Fed → ℕ
 decided_by limit feed Line = feed.passed
 decided_by limit feed Long = feed.passed + limit + 1
-decided_by limit feed Over = input_most + 1
+decided_by limit feed Over = input_bytes + 1
 decided_by limit feed Unfinished = feed.passed + length feed.held
 decided_by limit feed End = feed.passed + length feed.held
 decided_by limit feed Fault = feed.passed + length feed.held

@@ -1,5 +1,5 @@
 -- When a line is whole, too long, past the bytes that count, or not at its end.
-use Rattle.std.specs.Prelude.{◌≡◌, ◌≢◌, ℕ, ◌+◌, ◌<◌, ◌≤◌, List, length, take, All, slice_index}
+use Rattle.std.specs.Prelude.{◌≡◌, ◌≢◌, ℕ, ◌+◌, ◌<◌, ◌≤◌, List, length, take, All, slice_index, Option, None, Some}
 
 -- no byte ends a line
 abbrev pub HasNoNewline : List ℕ → Type 0
@@ -11,6 +11,11 @@ pub record EndsAt (most n : ℕ) (bytes : List ℕ) : Type 0 where
   pub within : n < length bytes
   pub plain : HasNoNewline (take n bytes)
   pub newline : slice_index bytes n ≡ 10
+
+-- where the first newline stands, if there is one
+abbrev pub IsFirstNewline : List ℕ → Option ℕ → Type 0
+IsFirstNewline bytes None = HasNoNewline bytes
+IsFirstNewline bytes (Some n) = EndsAt (length bytes) n bytes
 
 -- more than `limit` bytes of the line stand there, all among those that count
 pub record IsLong (limit counted : ℕ) (bytes : List ℕ) : Type 0 where

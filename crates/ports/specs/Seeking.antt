@@ -3,23 +3,23 @@ use Rattle.std.specs.Prelude.{◌≡◌, ℕ, ◌+◌, ◌<◌, List, [], length
 use Rattle.std.specs.Io.KnownBytes.{IsAtEnd}
 use Rattle.ports.specs.Devices.{Rose}
 use Rattle.ports.specs.Lines.{EndsAt, IsLong, IsOver, IsOpen}
-use Rattle.ports.specs.declared.seeking.Finding.{Finding}
-use Rattle.ports.specs.declared.seeking.Finding.TheVariants.{Line, Long, Over, Unfinished, End, Fault}
+use Rattle.ports.specs.declared.line_feed.Fed.{Fed}
+use Rattle.ports.specs.declared.line_feed.Fed.TheVariants.{Line, Long, Unfinished, End, Fault, Over}
 
--- each finding, where it is right: `left` is what the source has still to give, and its faults were `before` and are `now`
-abbrev pub IsFinding : ℕ → ℕ → Option (List ℕ) → ℕ → ℕ → List ℕ → Finding → Type 0
-IsFinding limit counted left before now bytes (Line n) = EndsAt (min (limit + 1) counted) n bytes
-IsFinding limit counted left before now bytes Long = IsLong limit counted bytes
-IsFinding limit counted left before now bytes Over = IsOver limit counted bytes
-IsFinding limit counted left before now bytes Unfinished = IsOpen limit counted bytes × (0 < length bytes) × IsAtEnd left
-IsFinding limit counted left before now bytes End = (bytes ≡ []) × IsAtEnd left
-IsFinding limit counted left before now bytes Fault = IsOpen limit counted bytes × Rose before now
+-- each answer, where it is right: `left` is what the source has still to give, and its faults were `before` and are `now`
+abbrev pub IsFound : ℕ → ℕ → Option (List ℕ) → ℕ → ℕ → List ℕ → ℕ → Fed → Type 0
+IsFound limit counted left before now bytes n Line = EndsAt (min (limit + 1) counted) n bytes
+IsFound limit counted left before now bytes n Long = IsLong limit counted bytes
+IsFound limit counted left before now bytes n Over = IsOver limit counted bytes
+IsFound limit counted left before now bytes n Unfinished = IsOpen limit counted bytes × (0 < length bytes) × IsAtEnd left
+IsFound limit counted left before now bytes n End = IsOpen limit counted bytes × (bytes ≡ []) × IsAtEnd left
+IsFound limit counted left before now bytes n Fault = IsOpen limit counted bytes × Rose before now
 
 -- how many bytes it took to decide that
-abbrev pub decided_behind : ℕ → ℕ → List ℕ → Finding → ℕ
-decided_behind limit counted bytes (Line n) = n + 1
-decided_behind limit counted bytes Long = limit + 1
-decided_behind limit counted bytes Over = counted + 1
-decided_behind limit counted bytes Unfinished = length bytes
-decided_behind limit counted bytes End = length bytes
-decided_behind limit counted bytes Fault = length bytes
+abbrev pub decided_behind : ℕ → ℕ → List ℕ → ℕ → Fed → ℕ
+decided_behind limit counted bytes n Line = n + 1
+decided_behind limit counted bytes n Long = limit + 1
+decided_behind limit counted bytes n Over = counted + 1
+decided_behind limit counted bytes n Unfinished = length bytes
+decided_behind limit counted bytes n End = length bytes
+decided_behind limit counted bytes n Fault = length bytes

@@ -1,8 +1,8 @@
 //! A sink for tests.
-ghost use Rattle.std.specs.Prelude.{◌≡◌, ◌-◌, ◌<◌, ◌≤◌, ◌↔◌, [], length, min, Some, IsErr, IfOk, IsTrue, OnOk, OnErr, Result, vec_len, vec_capacity};
+ghost use Rattle.std.specs.Prelude.{◌≡◌, ◌-◌, ◌<◌, ◌≤◌, ◌↔◌, [], length, min, true, false, Some, IsErr, IfOk, IsTrue, OnOk, OnErr, Result, vec_len, vec_capacity};
 ghost use Rattle.std.specs.Io.KnownBytes.{WriteAppends};
-ghost use Rattle.ports.specs.Devices.{HasCause, TakesSome};
-ghost use Rattle.ports.specs.Pieces.{Store, is_refused, one_more};
+ghost use Rattle.ports.specs.Devices.{HasCause, CountsFailures, TakesSome, one_more};
+ghost use Rattle.ports.specs.Pieces.{Store, is_refused};
 
 use super::devices::{Failed, Sink};
 use std::alloc::{AllocError, Global};
@@ -18,6 +18,7 @@ pub struct ByteSink {
     fails: Vec<u64>,
     calls: u64,
     faults: u64,
+    failing: bool,
 }
 
 impl Model for ByteSink {
@@ -30,6 +31,7 @@ impl Model for ByteSink {
       fails = s.fails.items;
       calls = s.calls;
       faults = s.faults;
+      failing = s.failing;
     } };
 
     ghost invariant = { λ s. (vec_len s.bytes ≤ s.room) × (s.room ≤ vec_capacity s.bytes) × (1 ≤ s.piece) };
@@ -52,6 +54,7 @@ impl ByteSink {
           fails = fails.items;
           calls = 0;
           faults = 0;
+          failing = false;
         }) }
     {
         let bytes = Vec::with_capacity(alloc, room)?;
@@ -62,6 +65,7 @@ impl ByteSink {
             fails,
             calls: 0,
             faults: 0,
+            failing: false,
         })
     }
 
@@ -78,20 +82,25 @@ impl Sink for ByteSink {
 
     ghost faults = { λ s. s.faults };
 
+    ghost is_exact = { true };
+
+    ghost is_failing = { λ s. s.failing };
+
     fn put(&mut self, from: &[u8]) -> Result<usize, Failed>
         requires { 0 < length from.now }
         ensures failed { IsErr result ↔ IsTrue (is_refused self.old) }
         ensures count { IfOk result (λ n. n ≡ min (min (self.old.room - length self.old.bytes) (length from.now)) self.old.piece) }
-        ensures ok { OnOk result (self.new ≡ record self.old { bytes = self.new.bytes; calls = one_more self.old.calls }) }
-        ensures err { OnErr result (self.new ≡ record self.old { calls = one_more self.old.calls; faults = one_more self.old.faults }) }
+        ensures ok { OnOk result (self.new ≡ record self.old { bytes = self.new.bytes; calls = one_more self.old.calls; failing = false }) }
+        ensures err { OnErr result (self.new ≡ record self.old { calls = one_more self.old.calls; faults = one_more self.old.faults; failing = true }) }
 
         ensures bound { TakesSome result (length from.now) }
         ensures bytes { WriteAppends (Some self.old.bytes) (Some self.new.bytes) result from.now }
         ensures cause { HasCause self.old.faults self.new.faults result }
+        ensures exact { CountsFailures self.old.faults self.new.faults self.new.failing result }
     {
-        let is_refused = self.fails.contains(&self.calls) || self.bytes.len() == self.room;
+        self.failing = self.fails.contains(&self.calls) || self.bytes.len() == self.room;
         self.calls = self.calls.saturating_add(1);
-        if is_refused {
+        if self.failing {
             self.faults = self.faults.saturating_add(1);
             return Err(Failed);
         }
@@ -105,6 +114,7 @@ impl Sink for ByteSink {
 #[cfg(test)]
 mod tests {
     use super::*;
+    use sched_base::limits::{LINE_BYTES, SETUP_BYTES};
     use std::test::Fail;
 
     #[test]
@@ -124,6 +134,18 @@ mod tests {
             assert_eq!(rt; sink.faults, faults);
         }
         assert_eq!(rt; sink.bytes(), b"abcde".as_slice());
+        Ok(())
+    }
+
+    #[test]
+    fn a_sink_has_room_for_a_longest_line(rt: HostRuntime) -> Result<(), Fail> {
+        for room in [LINE_BYTES, SETUP_BYTES] {
+            let line = Vec::from_elem(rt.alloc(), b'x', room)?;
+            let mut sink = ByteSink::new(rt.alloc(), room, room, Vec::new(rt.alloc()))?;
+            assert_eq!(rt; sink.put(&line), Ok(room));
+            assert_eq!(rt; sink.put(b"y"), Err(Failed));
+            assert_eq!(rt; sink.bytes(), line.as_slice());
+        }
         Ok(())
     }
 }

@@ -1,9 +1,9 @@
 //! A source for tests.
-ghost use Rattle.std.specs.Prelude.{◌≡◌, ◌<◌, ◌≤◌, ◌↔◌, length, min, take, drop, Some, IsErr, IfOk, IsTrue, OnOk, OnErr, Result};
+ghost use Rattle.std.specs.Prelude.{◌≡◌, ◌<◌, ◌≤◌, ◌↔◌, length, min, take, drop, true, false, Some, IsErr, IfOk, IsTrue, OnOk, OnErr, Result};
 ghost use Rattle.std.specs.Io.{ReadsAtMost};
 ghost use Rattle.std.specs.Io.KnownBytes.{ReadConsumes};
-ghost use Rattle.ports.specs.Devices.{HasCause, EndsRightly};
-ghost use Rattle.ports.specs.Pieces.{Feed, is_listed, one_more};
+ghost use Rattle.ports.specs.Devices.{HasCause, CountsFailures, EndsRightly, one_more};
+ghost use Rattle.ports.specs.Pieces.{Supply, is_listed};
 
 use super::devices::{Failed, Source};
 use super::handing::hand_out;
@@ -18,10 +18,11 @@ pub struct ByteSource {
     fails: Vec<u64>,
     calls: u64,
     faults: u64,
+    failing: bool,
 }
 
 impl Model for ByteSource {
-    ghost Value = { Feed };
+    ghost Value = { Supply };
 
     ghost view = { λ s. record {
       left = drop s.at s.bytes.items;
@@ -29,6 +30,7 @@ impl Model for ByteSource {
       fails = s.fails.items;
       calls = s.calls;
       faults = s.faults;
+      failing = s.failing;
     } };
 
     ghost invariant = { λ s. (s.at ≤ length s.bytes.items) × (1 ≤ s.piece) };
@@ -45,6 +47,7 @@ impl ByteSource {
           fails = fails.items;
           calls = 0;
           faults = 0;
+          failing = false;
         } }
     {
         ByteSource {
@@ -54,6 +57,7 @@ impl ByteSource {
             fails,
             calls: 0,
             faults: 0,
+            failing: false,
         }
     }
 }
@@ -63,21 +67,26 @@ impl Source for ByteSource {
 
     ghost faults = { λ s. s.faults };
 
+    ghost is_exact = { true };
+
+    ghost is_failing = { λ s. s.failing };
+
     fn take(&mut self, into: &mut [u8]) -> Result<usize, Failed>
         requires { 0 < length into.old }
         ensures failed { IsErr result ↔ IsTrue (is_listed self.old.fails self.old.calls) }
         ensures count { IfOk result (λ n. n ≡ min (min (length self.old.left) (length into.old)) self.old.piece) }
-        ensures ok { OnOk result (self.new ≡ record self.old { left = self.new.left; calls = one_more self.old.calls }) }
-        ensures err { OnErr result (self.new ≡ record self.old { calls = one_more self.old.calls; faults = one_more self.old.faults }) }
+        ensures ok { OnOk result (self.new ≡ record self.old { left = self.new.left; calls = one_more self.old.calls; failing = false }) }
+        ensures err { OnErr result (self.new ≡ record self.old { calls = one_more self.old.calls; faults = one_more self.old.faults; failing = true }) }
 
         ensures bound { ReadsAtMost result into.new }
         ensures bytes { ReadConsumes (Some self.old.left) (Some self.new.left) result into.new }
         ensures end { EndsRightly (Some self.old.left) result }
         ensures cause { HasCause self.old.faults self.new.faults result }
+        ensures exact { CountsFailures self.old.faults self.new.faults self.new.failing result }
     {
-        let is_due = self.fails.contains(&self.calls);
+        self.failing = self.fails.contains(&self.calls);
         self.calls = self.calls.saturating_add(1);
-        if is_due {
+        if self.failing {
             self.faults = self.faults.saturating_add(1);
             return Err(Failed);
         }

@@ -1,7 +1,7 @@
 //! A sink that only counts.
-ghost use Rattle.std.specs.Prelude.{◌≡◌, ℕ, ◌+◌, ◌-◌, ◌^◌, ◌<◌, length, min, None, Ok, Result};
+ghost use Rattle.std.specs.Prelude.{◌≡◌, ℕ, ◌+◌, ◌-◌, ◌^◌, ◌<◌, length, min, true, false, None, Ok, Result};
 ghost use Rattle.std.specs.Io.KnownBytes.{WriteAppends};
-ghost use Rattle.ports.specs.Devices.{HasCause, TakesSome};
+ghost use Rattle.ports.specs.Devices.{HasCause, CountsFailures, TakesSome};
 
 use super::devices::{Failed, Sink};
 use std::marker::Model;
@@ -39,6 +39,8 @@ impl Sink for CountSink {
 
     ghost faults = { λ _. 0 };
 
+    ghost is_exact = { true };
+
     fn put(&mut self, from: &[u8]) -> Result<usize, Failed>
         requires { 0 < length from.now }
         ensures answer { result ≡ Ok (length from.now) }
@@ -46,6 +48,7 @@ impl Sink for CountSink {
         ensures bound { TakesSome result (length from.now) }
         ensures bytes { WriteAppends None None result from.now }
         ensures cause { HasCause 0 0 result }
+        ensures exact { CountsFailures 0 0 false result }
     {
         self.count = self.count.saturating_add(from.len() as u64);
         Ok(from.len())

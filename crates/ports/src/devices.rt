@@ -1,8 +1,8 @@
 //! The two traits that a program's core reads from and writes to.
-ghost use Rattle.std.specs.Prelude.{ℕ, ◌<◌, Option, List, length};
+ghost use Rattle.std.specs.Prelude.{ℕ, ◌<◌, Bool, false, IsTrue, Option, List, length};
 ghost use Rattle.std.specs.Io.{ReadsAtMost};
 ghost use Rattle.std.specs.Io.KnownBytes.{ReadConsumes, WriteAppends};
-ghost use Rattle.ports.specs.Devices.{HasCause, EndsRightly, TakesSome};
+ghost use Rattle.ports.specs.Devices.{HasCause, CountsFailures, EndsRightly, TakesSome};
 
 use thiserror::Error;
 
@@ -19,6 +19,12 @@ pub trait Source {
     // How many takes have failed, up to the last value of a `u64`.
     ghost faults: { Self → ℕ };
 
+    // Whether it promises that a take which fails raises that count by one, and that no other take changes it.
+    ghost is_exact: { Bool } = { false };
+
+    // Whether the last take failed, where that is promised.
+    ghost is_failing: { Self → Bool } = { λ _. false };
+
     /// Puts the next bytes into the front of `into`, and answers how many: 0 only at the end.
     ///
     /// After `Failed` the bytes still to come are the same as before.
@@ -27,7 +33,8 @@ pub trait Source {
         ensures bound { ReadsAtMost result into.new }
         ensures bytes { ReadConsumes (left self.old) (left self.new) result into.new }
         ensures end { EndsRightly (left self.old) result }
-        ensures cause { HasCause (faults self.old) (faults self.new) result };
+        ensures cause { HasCause (faults self.old) (faults self.new) result }
+        ensures exact { IsTrue is_exact → CountsFailures (faults self.old) (faults self.new) (is_failing self.new) result };
 }
 
 /// Something that bytes are written to, in order.
@@ -38,6 +45,12 @@ pub trait Sink {
     // How many puts have failed, up to the last value of a `u64`.
     ghost faults: { Self → ℕ };
 
+    // Whether it promises that a put which fails raises that count by one, and that no other put changes it.
+    ghost is_exact: { Bool } = { false };
+
+    // Whether the last put failed, where that is promised.
+    ghost is_failing: { Self → Bool } = { λ _. false };
+
     /// Takes bytes from the front of `from`, and answers how many: at least 1.
     ///
     /// After `Failed` nothing of `from` was taken.
@@ -45,5 +58,6 @@ pub trait Sink {
         requires { 0 < length from.now }
         ensures bound { TakesSome result (length from.now) }
         ensures bytes { WriteAppends (taken self.old) (taken self.new) result from.now }
-        ensures cause { HasCause (faults self.old) (faults self.new) result };
+        ensures cause { HasCause (faults self.old) (faults self.new) result }
+        ensures exact { IsTrue is_exact → CountsFailures (faults self.old) (faults self.new) (is_failing self.new) result };
 }

@@ -1,56 +1,78 @@
 //! What bytes in hand say of the line that begins with them.
-ghost use Rattle.std.specs.Prelude.{◌≤◌, length, take, IfSome, MatchOption};
-ghost use Rattle.ports.specs.Lines.{HasNoNewline, EndsAt};
-ghost use Rattle.ports.specs.Judging.{Judged, IsBehind};
+ghost use Rattle.std.specs.Prelude.{◌≡◌, ◌<◌, ◌≤◌, length, take, IfSome, MatchOption};
+ghost use Rattle.ports.specs.Lines.{HasNoNewline, IsFirstNewline};
+ghost use Rattle.ports.specs.Judging.{IsJudged};
 
+use super::line_feed::Fed;
 use memchr::memchr;
+use sched_base::limits::SETUP_BYTES;
 
-/// What the bytes in hand say.
-pub(super) enum Verdict {
-    /// The line has this many bytes, and its newline stands behind them.
-    Line(usize),
-    /// The line is longer than it may be.
-    Long,
-    /// There are more bytes than count, and the line is not at its end.
-    Over,
-    /// That depends on the bytes to come.
-    Open,
+/// What comes next, and how many bytes the line has where it is one; else 0.
+#[derive(Clone, Copy)]
+pub(super) struct Found {
+    pub(super) answer: Fed,
+    pub(super) length: usize,
 }
 
-/// Where the first newline stands among the first `most` bytes. The first `searched` are known to have none.
-fn newline_among(bytes: &[u8], searched: usize, most: usize) -> Option<usize>
-    requires order { searched ≤ most }
-    requires within { most ≤ length bytes.now }
+impl Found {
+    /// An answer without a line.
+    pub(super) fn none(answer: Fed) -> Found
+        ensures { result ≡ record { answer = answer; length = 0 } }
+    {
+        Found { answer, length: 0 }
+    }
+}
+
+/// Where the first newline stands. The first `searched` bytes are known to have none.
+pub(super) fn first_newline(bytes: &[u8], searched: usize) -> Option<usize>
+    requires within { searched ≤ length bytes.now }
     requires plain { HasNoNewline (take searched bytes.now) }
-    ensures place { MatchOption result (HasNoNewline (take most bytes.now)) (λ n. EndsAt most n bytes.now) }
+    ensures place { IsFirstNewline bytes.now result }
     ensures behind { IfSome result (λ n. searched ≤ n) }
 {
-    match memchr(b'\n', &bytes[searched..most]) {
+    match memchr(b'\n', &bytes[searched..]) {
         Some(at) => Some(searched + at),
         None => None,
     }
 }
 
-/// Judges the line that begins with `bytes`. It may have `limit` bytes, and only the first `counted` of all bytes
-/// count. The first `searched` bytes are known to have no newline.
-pub(super) fn judge(bytes: &[u8], searched: usize, limit: usize, counted: usize) -> Verdict
-    requires limit { limit ≤ 65536 }
-    requires within { searched ≤ length bytes.now }
-    requires short { searched ≤ limit }
-    requires early { searched ≤ counted }
-    requires plain { HasNoNewline (take searched bytes.now) }
-    ensures verdict { Judged limit counted bytes.now result }
-    ensures behind { IsBehind searched result }
+/// The place of a newline where it is below `most`.
+fn place_below(newline: Option<usize>, most: usize) -> Option<usize>
+    ensures { MatchOption result (IfSome newline (λ n. most ≤ n)) (λ n. (newline ≡ Some n) × (n < most)) }
 {
-    let most = bytes.len().min(limit + 1).min(counted);
-    if let Some(at) = newline_among(bytes, searched, most) {
-        return Verdict::Line(at);
+    match newline {
+        Some(place) => { if place < most { Some(place) } else { None } }
+        None => None,
     }
-    if bytes.len() <= limit.min(counted) {
-        Verdict::Open
-    } else if limit < counted {
-        Verdict::Long
-    } else {
-        Verdict::Over
+}
+
+/// What comes next, where `bytes` say so; `None` where that depends on the bytes to come. Their first newline stands
+/// at `newline`. A line may have `limit` bytes, and only the first `counted` of all bytes count.
+pub(super) fn judge(
+    bytes: &[u8],
+    newline: Option<usize>,
+    limit: usize,
+    counted: usize,
+) -> Option<Found>
+    requires limit { limit ≤ SETUP_BYTES }
+    requires newline { IsFirstNewline bytes.now newline }
+    ensures judged { IsJudged limit counted bytes.now result }
+    ensures behind { IfSome result (λ found. found.answer ≡ Fed.Line → newline ≡ Some found.length) }
+{
+    let most = counted.min(limit + 1);
+    match place_below(newline, most) {
+        Some(length) => Some(Found {
+            answer: Fed::Line,
+            length,
+        }),
+        None => {
+            if bytes.len() <= limit.min(counted) {
+                None
+            } else if limit < counted {
+                Some(Found::none(Fed::Long))
+            } else {
+                Some(Found::none(Fed::Over))
+            }
+        }
     }
 }

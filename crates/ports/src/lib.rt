@@ -1,6 +1,7 @@
 //! Where bytes come from and where they go: sources, sinks, and the means to test what stands on them.
 #![tactic(auto)]
 
+mod buffer;
 pub mod byte_sink;
 pub mod byte_source;
 pub mod count_sink;
@@ -9,16 +10,17 @@ pub mod gate;
 mod handing;
 mod judging;
 pub mod line_feed;
+pub mod putting;
 mod seeking;
 pub mod std_ports;
 pub mod sure_source;
-mod window;
 
 pub use byte_sink::ByteSink;
 pub use byte_source::ByteSource;
 pub use count_sink::CountSink;
 pub use devices::{Failed, Sink, Source};
 pub use gate::{Gate, NoGate, Point};
-pub use line_feed::{Fed, INPUT_MOST, LINE_MOST, LineFeed};
+pub use line_feed::{Fed, LineFeed};
+pub use putting::put_all;
 pub use std_ports::{StdSink, StdSource};
 pub use sure_source::SureSource;

@@ -1,70 +1,72 @@
 //! Reading on until the bytes in hand decide what the next line is.
-ghost use Rattle.std.specs.Prelude.{◌+◌, ◌^◌, ◌<◌, ◌≤◌, length};
+ghost use Rattle.std.specs.Prelude.{◌≡◌, ◌+◌, ◌^◌, ◌<◌, ◌≤◌, length, IsTrue};
 ghost use Rattle.std.specs.Io.{StartsWith};
 ghost use Rattle.std.specs.Io.KnownBytes.{Keeps, prepend_known};
-ghost use Rattle.ports.specs.Seeking.{IsFinding, decided_behind};
+ghost use Rattle.ports.specs.LineFeed.{CountsFault};
+ghost use Rattle.ports.specs.Lines.{IsFirstNewline, IsOpen};
+ghost use Rattle.ports.specs.Seeking.{IsFound, decided_behind};
 
+use super::buffer::Buffer;
 use super::devices::{Failed, Source};
-use super::judging::{Verdict, judge};
-use super::window::Window;
+use super::judging::{Found, first_newline, judge};
+use super::line_feed::Fed;
+use sched_base::limits::{PIECE_BYTES, SETUP_BYTES};
 
-/// The most bytes that are taken from a source at once.
-pub(super) const PIECE: usize = 4_096;
-
-/// What stands at the front of the bytes in hand and to come.
-pub(super) enum Finding {
-    /// A line of this many bytes, and its newline.
-    Line(usize),
-    /// A line that is longer than it may be.
-    Long,
-    /// No whole line among the bytes that count, and a byte behind those.
-    Over,
-    /// A line without a newline, at the input's end.
-    Unfinished,
-    /// The input's end.
-    End,
-    /// The source failed before that was known.
-    Fault,
-}
-
-/// Finds what stands at the front of the window and of the source behind it. A line may have `limit` bytes, and
-/// only the first `counted` bytes count.
+/// Finds what stands at the front of the buffer, whose first newline stands at `newline`, and of the source behind
+/// it. A line may have `limit` bytes, and only the first `counted` bytes count. Where the bytes in hand decide that,
+/// the source isn't asked.
 pub(super) fn seek<S: Source>(
-    window: &mut Window,
+    buffer: &mut Buffer,
+    newline: Option<usize>,
     source: &mut S,
     limit: usize,
     counted: usize,
-) -> Finding
-    requires limit { limit ≤ 65536 }
-    requires few { length window.old < PIECE }
-    requires early { length window.old ≤ counted + 1 }
+) -> Found
+    requires limit { limit ≤ SETUP_BYTES }
+    requires newline { IsFirstNewline buffer.old newline }
+    requires few { length buffer.old < PIECE_BYTES }
+    requires early { length buffer.old ≤ counted + 1 }
     requires sum { counted < 2 ^ 62 }
-    ensures finding { IsFinding limit counted (S.left source.new) (S.faults source.old) (S.faults source.new) window.new result }
-    ensures keeps { StartsWith window.new window.old }
-    ensures bytes { Keeps (prepend_known window.old (S.left source.old)) (prepend_known window.new (S.left source.new)) }
-    ensures most { length window.new ≤ counted + 1 }
-    ensures ahead { length window.new < decided_behind limit counted window.new result + PIECE }
+    ensures found { IsFound limit counted (S.left source.new) (S.faults source.old) (S.faults source.new) buffer.new result.length result.answer }
+    ensures keeps { StartsWith buffer.new buffer.old }
+    ensures bytes { Keeps (prepend_known buffer.old (S.left source.old)) (prepend_known buffer.new (S.left source.new)) }
+    ensures most { length buffer.new ≤ counted + 1 }
+    ensures ahead { length buffer.new < decided_behind limit counted buffer.new result.length result.answer + PIECE_BYTES }
     ensures later { S.faults source.old ≤ S.faults source.new }
+    ensures exact { IsTrue S.is_exact → CountsFault (S.faults source.old) (S.faults source.new) (S.is_failing source.new) result.answer }
+    ensures idle { ¬ (IsOpen limit counted buffer.old) → source.new ≡ source.old }
 {
-    let mut searched = 0;
-    for _turn in 0..limit + 1 {
-        match judge(window.bytes(), searched, limit, counted) {
-            Verdict::Line(at) => return Finding::Line(at),
-            Verdict::Long => return Finding::Long,
-            Verdict::Over => return Finding::Over,
-            Verdict::Open => searched = window.len(),
-        }
-        match window.refill(source, PIECE.min(counted + 1 - searched)) {
-            Ok(0) if searched == 0 => return Finding::End,
-            Ok(0) => return Finding::Unfinished,
-            Ok(_) => {}
-            Err(Failed) => return Finding::Fault,
-        }
+    match judge(buffer.bytes(), newline, limit, counted) {
+        Some(found) => found,
+        None => read_on(buffer, source, limit, counted),
     }
-    match judge(window.bytes(), searched, limit, counted) {
-        Verdict::Line(at) => Finding::Line(at),
-        Verdict::Long => Finding::Long,
-        Verdict::Over => Finding::Over,
-        Verdict::Open => unreachable!(),
+}
+
+/// Reads until the bytes in hand decide, where they don't yet. It asks the source at least once, and never again
+/// after a failure.
+fn read_on<S: Source>(buffer: &mut Buffer, source: &mut S, limit: usize, counted: usize) -> Found
+    requires limit { limit ≤ SETUP_BYTES }
+    requires sum { counted < 2 ^ 62 }
+    requires open { IsOpen limit counted buffer.old }
+    ensures found { IsFound limit counted (S.left source.new) (S.faults source.old) (S.faults source.new) buffer.new result.length result.answer }
+    ensures keeps { StartsWith buffer.new buffer.old }
+    ensures bytes { Keeps (prepend_known buffer.old (S.left source.old)) (prepend_known buffer.new (S.left source.new)) }
+    ensures most { length buffer.new ≤ counted + 1 }
+    ensures ahead { length buffer.new < decided_behind limit counted buffer.new result.length result.answer + PIECE_BYTES }
+    ensures later { S.faults source.old ≤ S.faults source.new }
+    ensures exact { IsTrue S.is_exact → CountsFault (S.faults source.old) (S.faults source.new) (S.is_failing source.new) result.answer }
+{
+    loop {
+        let searched = buffer.len();
+        match buffer.refill(source, PIECE_BYTES.min(counted + 1 - searched)) {
+            Ok(0) if searched == 0 => return Found::none(Fed::End),
+            Ok(0) => return Found::none(Fed::Unfinished),
+            Ok(_) => {}
+            Err(Failed) => return Found::none(Fed::Fault),
+        }
+        let newline = first_newline(buffer.bytes(), searched);
+        if let Some(found) = judge(buffer.bytes(), newline, limit, counted) {
+            return found;
+        }
     }
 }

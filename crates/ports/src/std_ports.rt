@@ -1,9 +1,8 @@
 //! The edge to std's readers and writers. What they give and take is not told.
-ghost use Rattle.std.specs.Prelude.{◌≡◌, ◌<◌, None, length, OnOk, OnErr};
+ghost use Rattle.std.specs.Prelude.{◌≡◌, ◌<◌, true, None, length};
 ghost use Rattle.std.specs.Io.{ReadsAtMost};
 ghost use Rattle.std.specs.Io.KnownBytes.{ReadConsumes, WriteAppends};
-ghost use Rattle.ports.specs.Devices.{HasCause, EndsRightly, TakesSome};
-ghost use Rattle.ports.specs.Pieces.{one_more};
+ghost use Rattle.ports.specs.Devices.{HasCause, CountsFailures, EndsRightly, TakesSome};
 
 use super::devices::{Failed, Sink, Source};
 use std::io::{Read, Write};
@@ -13,6 +12,8 @@ use std::io::{Read, Write};
 pub struct StdSource<R: Read> {
     inner: R,
     faults: u64,
+    // Whether the last call failed.
+    failing: bool,
 }
 
 impl<R: Read> StdSource<R> {
@@ -20,7 +21,11 @@ impl<R: Read> StdSource<R> {
     pub fn new(inner: R) -> StdSource<R>
         ensures { ⟦<StdSource<R> as Source>⟧.faults result ≡ 0 }
     {
-        StdSource { inner, faults: 0 }
+        StdSource {
+            inner,
+            faults: 0,
+            failing: false,
+        }
     }
 }
 
@@ -29,22 +34,29 @@ impl<R: Read> Source for StdSource<R> {
 
     ghost faults = { λ s. s.faults };
 
+    ghost is_exact = { true };
+
+    ghost is_failing = { λ s. s.failing };
+
     fn take(&mut self, into: &mut [u8]) -> Result<usize, Failed>
         requires { 0 < length into.old }
 
         // What the reader gives comes through, where it is a reader whose bytes are known.
         ensures inner { ReadConsumes (R.remaining self.old.inner) (R.remaining self.new.inner) result into.new }
-        ensures counted { OnErr result (self.new.faults ≡ one_more self.old.faults) }
-        ensures ok { OnOk result (self.new.faults ≡ self.old.faults) }
 
         ensures bound { ReadsAtMost result into.new }
         ensures bytes { ReadConsumes None None result into.new }
         ensures end { EndsRightly None result }
         ensures cause { HasCause self.old.faults self.new.faults result }
+        ensures exact { CountsFailures self.old.faults self.new.faults self.new.failing result }
     {
         match self.inner.read(into) {
-            Ok(count) => Ok(count),
+            Ok(count) => {
+                self.failing = false;
+                Ok(count)
+            }
             Err(_) => {
+                self.failing = true;
                 self.faults = self.faults.saturating_add(1);
                 Err(Failed)
             }
@@ -57,6 +69,8 @@ impl<R: Read> Source for StdSource<R> {
 pub struct StdSink<W: Write> {
     inner: W,
     faults: u64,
+    // Whether the last call failed.
+    failing: bool,
 }
 
 impl<W: Write> StdSink<W> {
@@ -64,7 +78,11 @@ impl<W: Write> StdSink<W> {
     pub fn new(inner: W) -> StdSink<W>
         ensures { ⟦<StdSink<W> as Sink>⟧.faults result ≡ 0 }
     {
-        StdSink { inner, faults: 0 }
+        StdSink {
+            inner,
+            faults: 0,
+            failing: false,
+        }
     }
 }
 
@@ -73,21 +91,28 @@ impl<W: Write> Sink for StdSink<W> {
 
     ghost faults = { λ s. s.faults };
 
+    ghost is_exact = { true };
+
+    ghost is_failing = { λ s. s.failing };
+
     fn put(&mut self, from: &[u8]) -> Result<usize, Failed>
         requires { 0 < length from.now }
 
         // What is taken goes to the writer, where it is a writer whose bytes are known.
         ensures inner { WriteAppends (W.contents self.old.inner) (W.contents self.new.inner) result from.now }
-        ensures counted { OnErr result (self.new.faults ≡ one_more self.old.faults) }
-        ensures ok { OnOk result (self.new.faults ≡ self.old.faults) }
 
         ensures bound { TakesSome result (length from.now) }
         ensures bytes { WriteAppends None None result from.now }
         ensures cause { HasCause self.old.faults self.new.faults result }
+        ensures exact { CountsFailures self.old.faults self.new.faults self.new.failing result }
     {
         match self.inner.write(from) {
-            Ok(count) if count > 0 => Ok(count),
+            Ok(count) if count > 0 => {
+                self.failing = false;
+                Ok(count)
+            }
             _ => {
+                self.failing = true;
                 self.faults = self.faults.saturating_add(1);
                 Err(Failed)
             }

@@ -1,8 +1,8 @@
 //! A source that never fails.
-ghost use Rattle.std.specs.Prelude.{◌≡◌, ℕ, ◌<◌, ◌≤◌, List, length, min, take, drop, Some, Ok, Result};
+ghost use Rattle.std.specs.Prelude.{◌≡◌, ℕ, ◌<◌, ◌≤◌, List, length, min, take, drop, true, false, Some, Ok, Result};
 ghost use Rattle.std.specs.Io.{ReadsAtMost};
 ghost use Rattle.std.specs.Io.KnownBytes.{ReadConsumes};
-ghost use Rattle.ports.specs.Devices.{HasCause, EndsRightly};
+ghost use Rattle.ports.specs.Devices.{HasCause, CountsFailures, EndsRightly};
 
 use super::devices::{Failed, Source};
 use super::handing::hand_out;
@@ -37,6 +37,8 @@ impl Source for SureSource {
 
     ghost faults = { λ _. 0 };
 
+    ghost is_exact = { true };
+
     fn take(&mut self, into: &mut [u8]) -> Result<usize, Failed>
         requires { 0 < length into.old }
         ensures answer { result ≡ Ok (min (length self.old) (length into.old)) }
@@ -44,6 +46,7 @@ impl Source for SureSource {
         ensures bytes { ReadConsumes (Some self.old) (Some self.new) result into.new }
         ensures end { EndsRightly (Some self.old) result }
         ensures cause { HasCause 0 0 result }
+        ensures exact { CountsFailures 0 0 false result }
     {
         let count = hand_out(&self.bytes, self.at, into, usize::MAX);
         self.at += count;

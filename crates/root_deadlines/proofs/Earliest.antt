@@ -1,22 +1,25 @@
 -- One pass over the ten lanes finds the filled lane that is due first.
-use Rattle.std.proofs.Common.{◌≡◌, ◌&&◌, ◌||◌, ◌==◌, ◌<◌, nat_lt, suc, arith, subst, ℕ, Bool, true, false, cond, List, [], ◌∷◌, length, map, fold, Option, None, Some, option_map, refl, sym, ap, ◌∙◌}
+use Rattle.std.proofs.Common.{◌≡◌, ◌&&◌, ◌||◌, ◌==◌, ◌<◌, nat_lt, suc, arith, subst, inl, inr, ℕ, Contains, is_some, Bool, true, false, cond, List, [], ◌∷◌, length, map, fold, Option, None, Some, option_map, refl, sym, ap, ◌∙◌}
 use Rattle.std.specs.Prelude.{slice_get, slice_index}
 use Rattle.std.specs.List.{list_all}
-use Rattle.std.proofs.lemmas.Bool.{and_parts}
+use Rattle.std.proofs.lemmas.Bool.{and_parts, cond_both, false≢true}
 use Rattle.std.proofs.lemmas.List.{get_or-map}
 use Rattle.std.proofs.lemmas.List.FromFn.{get_or-range_with_len}
 use Rattle.std.proofs.lemmas.Option.{slice_get-get_or}
 use Rattle.std.proofs.Math.ListN.{get_or}
 use Rattle.sched_base.specs.declared.buckets.Bucket.TheVariants.{Fg}
 use Rattle.bucket_tables.specs.declared.Lane.{Lane}
-use Rattle.flat_policy.specs.Policy.Queue.{LaneState, lane, timeshare_lanes}
+use Rattle.flat_policy.specs.Laws.Choice.{OrdersMembers, better}
+use Rattle.flat_policy.specs.Policy.Queue.{LaneState, empty_flat, lane, timeshare_lanes}
 use Rattle.flat_policy.specs.Policy.Windows.{due_before, earliest_of, stands_higher}
+use Rattle.flat_policy.proofs.Choice.{chooses_one}
+use Rattle.flat_policy.proofs.Members.{contains_cases, contains_here, contains_later, contains_none}
+use Rattle.flat_policy.proofs.Orders.{lanes_in_order}
 use Rattle.root_deadlines.specs.declared.lanes.Due.{Due}
-use Rattle.root_deadlines.specs.Lanes.{AreWindowsOf, LaneTable, behind_first, filled_among, first_of}
-use Rattle.root_deadlines.specs.Places.{place_of}
+use Rattle.root_deadlines.specs.Lanes.{AreStatesOf, LaneTable, behind_first, filled_among, first_of}
+use Rattle.root_deadlines.specs.Indices.{index_of_lane}
 use Rattle.root_deadlines.specs.Sooner.{due_at, passed, sooner_of, sooner_with}
-use Rattle.root_deadlines.proofs.Least.{better_of, by_pass}
-use Rattle.root_deadlines.proofs.Ranks.{due_by_key, in_order, key, not_back}
+use Rattle.root_deadlines.proofs.InOrder.{in_order, not_back}
 use Rattle.root_deadlines.proofs.Tens.{by_ten}
 
 pub behind_length : (fs : List Bool) → length (behind_first fs) ≡ length fs
@@ -38,13 +41,13 @@ passed_over fs ds a ten =
 abbrev dues : List Lane → List ℕ → List Due
 dues [] ds = []
 dues (l ∷ ls) [] = []
-dues (l ∷ ls) (d ∷ ds) = record { place = place_of l; deadline = d } ∷ dues ls ds
+dues (l ∷ ls) (d ∷ ds) = record { index = index_of_lane l; deadline = d } ∷ dues ls ds
 
 dues_at : (ds : List ℕ) → length ds ≡ 10 → map (due_at ds) timeshare_lanes ≡ dues timeshare_lanes ds
 dues_at ds ten = by_ten (λ es. map (due_at es) timeshare_lanes ≡ dues timeshare_lanes es) (λ a b c d e f g h i j. refl) ds ten
 
 abbrev due_of : LaneState → Due
-due_of w = record { place = place_of w.lane; deadline = w.deadline }
+due_of w = record { index = index_of_lane w.lane; deadline = w.deadline }
 
 dues_of : (ws : List LaneState) → dues (map (λ (w : LaneState). w.lane) ws) (map (λ (w : LaneState). w.deadline) ws) ≡ map due_of ws
 dues_of [] = refl
@@ -64,7 +67,7 @@ by_deadline x w higher =
 -- a pass over windows in their order, from one that stands higher than all of them
 over_windows : (fs : List Bool) (ws : List LaneState) (x : LaneState)
     → list_all (stands_higher x.lane) (map (λ (w : LaneState). w.lane) ws) ≡ true → in_order (map (λ (w : LaneState). w.lane) ws) ≡ true
-    → Some (over fs (map due_of ws) (due_of x)) ≡ option_map due_of (fold (better_of due_before) (Some x) (filled_among fs ws))
+    → Some (over fs (map due_of ws) (due_of x)) ≡ option_map due_of (fold (better due_before) (Some x) (filled_among fs ws))
 over_windows [] ws x later order = refl
 over_windows (f ∷ fs) [] x later order = refl
 over_windows (true ∷ fs) (w ∷ ws) x later order =
@@ -73,7 +76,7 @@ over_windows (true ∷ fs) (w ∷ ws) x later order =
     let rest = and_parts (stands_higher x.lane w.lane) (list_all (stands_higher x.lane) ls) later in
     ap (λ b. Some (over fs (map due_of ws) (cond b (due_of w) (due_of x)))) (sym (by_deadline x w rest.0))
     ∙ elim (due_before w x) as (λ b. Some (over fs (map due_of ws) (cond b (due_of w) (due_of x)))
-    ≡ option_map due_of (fold (better_of due_before) (cond b (Some w) (Some x)) (filled_among fs ws))) [
+    ≡ option_map due_of (fold (better due_before) (cond b (Some w) (Some x)) (filled_among fs ws))) [
       | true ↦ over_windows fs ws w parts.0 parts.1
       | false ↦ over_windows fs ws x rest.1 parts.1
     ]
@@ -85,7 +88,7 @@ over_windows (false ∷ fs) (w ∷ ws) x later order =
 -- the same from the first that is filled, over those behind it
 from_first : (fs : List Bool) (ws : List LaneState) (y : Due) → in_order (map (λ (w : LaneState). w.lane) ws) ≡ true
     → first_of (filled_among fs (map due_of ws)) ≡ Some y
-    → Some (over (behind_first fs) (map due_of ws) y) ≡ option_map due_of (fold (better_of due_before) None (filled_among fs ws))
+    → Some (over (behind_first fs) (map due_of ws) y) ≡ option_map due_of (fold (better due_before) None (filled_among fs ws))
 from_first [] ws y order first = absurd cc
 from_first (f ∷ fs) [] y order first = absurd cc
 from_first (true ∷ fs) (w ∷ ws) y order first =
@@ -104,51 +107,74 @@ first_map f (b ∷ fs) [] = refl
 first_map f (true ∷ fs) (x ∷ xs) = refl
 first_map f (false ∷ fs) (x ∷ xs) = first_map f fs xs
 
--- the lanes of a list stand at their places
-abbrev Placed : List Lane → Type 0
-Placed [] = Unit {0}
-Placed (l ∷ ls) = (slice_get timeshare_lanes (place_of l) ≡ Some l) × Placed ls
+-- the lanes of a list stand at their indices
+abbrev Indexed : List Lane → Type 0
+Indexed [] = Unit {0}
+Indexed (l ∷ ls) = (slice_get timeshare_lanes (index_of_lane l) ≡ Some l) × Indexed ls
 
-ten_placed : Placed timeshare_lanes
-ten_placed = (refl, (refl, (refl, (refl, (refl, (refl, (refl, (refl, (refl, (refl, tt))))))))))
+ten_indexed : Indexed timeshare_lanes
+ten_indexed = (refl, (refl, (refl, (refl, (refl, (refl, (refl, (refl, (refl, (refl, tt))))))))))
 
-placed_among : (fs : List Bool) (ws : List LaneState) → Placed (map (λ (w : LaneState). w.lane) ws) → Placed (map (λ (w : LaneState). w.lane) (filled_among fs ws))
-placed_among [] ws p = tt
-placed_among (f ∷ fs) [] p = tt
-placed_among (true ∷ fs) (w ∷ ws) p = (p.0, placed_among fs ws p.1)
-placed_among (false ∷ fs) (w ∷ ws) p = placed_among fs ws p.1
+indexed_among : (fs : List Bool) (ws : List LaneState) → Indexed (map (λ (w : LaneState). w.lane) ws) → Indexed (map (λ (w : LaneState). w.lane) (filled_among fs ws))
+indexed_among [] ws p = tt
+indexed_among (f ∷ fs) [] p = tt
+indexed_among (true ∷ fs) (w ∷ ws) p = (p.0, indexed_among fs ws p.1)
+indexed_among (false ∷ fs) (w ∷ ws) p = indexed_among fs ws p.1
 
 abbrev lane_of_due : Option Due → Option Lane
 lane_of_due None = None
-lane_of_due (Some d) = slice_get timeshare_lanes d.place
+lane_of_due (Some d) = slice_get timeshare_lanes d.index
 
-best_placed : (ws : List LaneState) (x : LaneState) → slice_get timeshare_lanes (place_of x.lane) ≡ Some x.lane → Placed (map (λ (w : LaneState). w.lane) ws)
-    → lane_of_due (option_map due_of (fold (better_of due_before) (Some x) ws)) ≡ option_map (λ (e : LaneState). e.lane) (fold (better_of due_before) (Some x) ws)
-best_placed [] x at p = at
-best_placed (w ∷ ws) x at p =
-    elim (due_before w x) as (λ b. lane_of_due (option_map due_of (fold (better_of due_before) (cond b (Some w) (Some x)) ws))
-    ≡ option_map (λ (e : LaneState). e.lane) (fold (better_of due_before) (cond b (Some w) (Some x)) ws)) [
-      | true ↦ best_placed ws w p.0 p.1
-      | false ↦ best_placed ws x at p.1
+best_indexed : (ws : List LaneState) (x : LaneState) → slice_get timeshare_lanes (index_of_lane x.lane) ≡ Some x.lane → Indexed (map (λ (w : LaneState). w.lane) ws)
+    → lane_of_due (option_map due_of (fold (better due_before) (Some x) ws)) ≡ option_map (λ (e : LaneState). e.lane) (fold (better due_before) (Some x) ws)
+best_indexed [] x at p = at
+best_indexed (w ∷ ws) x at p =
+    elim (due_before w x) as (λ b. lane_of_due (option_map due_of (fold (better due_before) (cond b (Some w) (Some x)) ws))
+    ≡ option_map (λ (e : LaneState). e.lane) (fold (better due_before) (cond b (Some w) (Some x)) ws)) [
+      | true ↦ best_indexed ws w p.0 p.1
+      | false ↦ best_indexed ws x at p.1
     ]
 
-any_placed : (ws : List LaneState) → Placed (map (λ (w : LaneState). w.lane) ws)
-    → lane_of_due (option_map due_of (fold (better_of due_before) None ws)) ≡ option_map (λ (e : LaneState). e.lane) (fold (better_of due_before) None ws)
-any_placed [] p = refl
-any_placed (w ∷ ws) p = best_placed ws w p.0 p.1
+any_indexed : (ws : List LaneState) → Indexed (map (λ (w : LaneState). w.lane) ws)
+    → lane_of_due (option_map due_of (fold (better due_before) None ws)) ≡ option_map (λ (e : LaneState). e.lane) (fold (better due_before) None ws)
+any_indexed [] p = refl
+any_indexed (w ∷ ws) p = best_indexed ws w p.0 p.1
 
--- each place below ten is that of its lane
-lane_there : (p : ℕ) → p < 10 → (x : Lane) × (slice_get timeshare_lanes p ≡ Some x) × (place_of x ≡ p)
+-- each number below ten is the index of a lane
+pub lane_there : (p : ℕ) → p < 10 → (x : Lane) × (slice_get timeshare_lanes p ≡ Some x) × (index_of_lane x ≡ p)
 lane_there p small =
     let fg = lane Fg true in (
       get_or timeshare_lanes p fg,
       slice_get-get_or timeshare_lanes p fg small,
-      sym (get_or-map place_of timeshare_lanes p fg 0 small) ∙ get_or-range_with_len 0 10 p 0 small ∙ omega arith,
+      sym (get_or-map index_of_lane timeshare_lanes p fg 0 small) ∙ get_or-range_with_len 0 10 p 0 small ∙ omega arith,
     )
 
+-- what is among the flagged is among all
+among_all : {X : Type 0} (fs : List Bool) (xs : List X) (x : X) → Contains (filled_among fs xs) x → Contains xs x
+among_all [] xs x c = absurd (contains_none x c)
+among_all (f ∷ fs) [] x c = absurd (contains_none x c)
+among_all (true ∷ fs) (y ∷ ys) x c =
+    elim (contains_cases y (filled_among fs ys) x c) [
+      | inl is ↦ subst (λ z. Contains (y ∷ ys) z) is (contains_here y ys)
+      | inr d ↦ contains_later y ys x (among_all fs ys x d)
+    ]
+among_all (false ∷ fs) (y ∷ ys) x c = contains_later y ys x (among_all fs ys x c)
+
+-- the lane that is due first, by one pass
+due_by_scan : (fs : List Bool) (ws : List LaneState) → map (λ (w : LaneState). w.lane) ws ≡ timeshare_lanes
+    → fold (better due_before) None (filled_among fs ws) ≡ earliest_of (filled_among fs ws)
+due_by_scan fs ws ten =
+    let all = (lanes_in_order (record (empty_flat 0) { lanes = ws }) ten).due in
+    let order : OrdersMembers due_before (filled_among fs ws) = record {
+      irreflexive = λ x c. all.irreflexive x (among_all fs ws x c);
+      transitive = λ x y z c d e. all.transitive x y z (among_all fs ws x c) (among_all fs ws y d) (among_all fs ws z e);
+      total = λ x y c d. all.total x y (among_all fs ws x c) (among_all fs ws y d);
+    } in
+    (chooses_one due_before (filled_among fs ws) order).by_scan
+
 earliest_is : (fs : List Bool) (ds : List ℕ) → length fs ≡ 10 → length ds ≡ 10 → (p : ℕ) → p < 10 → slice_get timeshare_lanes p ≡ first_of (filled_among fs timeshare_lanes)
-    → (ws : List LaneState) → AreWindowsOf (record { filled = fs; deadlines = ds }) ws
-    → slice_get timeshare_lanes (passed (behind_first fs) ds (record { place = p; deadline = slice_index ds p })).place ≡ option_map (λ (e : LaneState). e.lane) (earliest_of (filled_among fs ws))
+    → (ws : List LaneState) → AreStatesOf (record { filled = fs; deadlines = ds }) ws
+    → slice_get timeshare_lanes (passed (behind_first fs) ds (record { index = p; deadline = slice_index ds p })).index ≡ option_map (λ (e : LaneState). e.lane) (earliest_of (filled_among fs ws))
 earliest_is fs ds flags numbers p small first ws are =
     let there = lane_there p small in
     let x = there.0 in
@@ -160,11 +186,11 @@ earliest_is fs ds flags numbers p small first ws are =
     let begins : first_of (filled_among fs (map due_of ws)) ≡ Some (due_at ds x) =
     ap (λ es. first_of (filled_among fs es)) (sym same) ∙ first_map (due_at ds) fs timeshare_lanes ∙ ap (option_map (due_at ds)) (sym first ∙ there.1) in
     let rest = behind_first fs in
-    ap (λ q. slice_get timeshare_lanes (passed rest ds (record { place = q; deadline = slice_index ds q })).place) (sym there.2)
-    ∙ ap (λ (d : Due). slice_get timeshare_lanes d.place) (passed_over rest ds (due_at ds x) (behind_length fs ∙ flags) ∙ ap (λ es. over rest es (due_at ds x)) same)
+    ap (λ q. slice_get timeshare_lanes (passed rest ds (record { index = q; deadline = slice_index ds q })).index) (sym there.2)
+    ∙ ap (λ (d : Due). slice_get timeshare_lanes d.index) (passed_over rest ds (due_at ds x) (behind_length fs ∙ flags) ∙ ap (λ es. over rest es (due_at ds x)) same)
     ∙ ap lane_of_due (from_first fs ws (due_at ds x) (ap in_order are.lanes) begins)
-    ∙ any_placed (filled_among fs ws) (placed_among fs ws (subst Placed (sym are.lanes) ten_placed))
-    ∙ ap (λ o. option_map (λ (e : LaneState). e.lane) o) (sym (by_pass due_before key due_by_key (filled_among fs ws)))
+    ∙ any_indexed (filled_among fs ws) (indexed_among fs ws (subst Indexed (sym are.lanes) ten_indexed))
+    ∙ ap (λ o. option_map (λ (e : LaneState). e.lane) o) (due_by_scan fs ws are.lanes)
 
 among_map : {X Y : Type 0} (f : X → Y) (fs : List Bool) (xs : List X) → filled_among fs (map f xs) ≡ map f (filled_among fs xs)
 among_map f [] xs = refl
@@ -188,7 +214,7 @@ over_first (true ∷ fs) (e ∷ es) a d first =
 over_first (false ∷ fs) (e ∷ es) a d first = over_first fs es a d first
 
 pass_from : (fs : List Bool) (ds : List ℕ) (a : Due) → length fs ≡ 10 → (p : ℕ) → p < 10 → slice_get timeshare_lanes p ≡ first_of (filled_among fs timeshare_lanes)
-    → passed fs ds a ≡ passed (behind_first fs) ds (sooner_of a (record { place = p; deadline = slice_index ds p }))
+    → passed fs ds a ≡ passed (behind_first fs) ds (sooner_of a (record { index = p; deadline = slice_index ds p }))
 pass_from fs ds a flags p small first =
     let there = lane_there p small in
     let x = there.0 in
@@ -198,7 +224,7 @@ pass_from fs ds a flags p small first =
     passed_over fs ds a flags
     ∙ over_first fs es a (due_at ds x) begins
     ∙ sym (passed_over (behind_first fs) ds (sooner_of a (due_at ds x)) (behind_length fs ∙ flags))
-    ∙ ap (λ q. passed (behind_first fs) ds (sooner_of a (record { place = q; deadline = slice_index ds q }))) there.2
+    ∙ ap (λ q. passed (behind_first fs) ds (sooner_of a (record { index = q; deadline = slice_index ds q }))) there.2
 
 -- where none is first, the pass leaves what was found
 pub pass_stays : (fs : List Bool) (ds : List ℕ) (a : Due) → length fs ≡ 10 → filled_among fs timeshare_lanes ≡ [] → passed fs ds a ≡ a
@@ -206,48 +232,34 @@ pass_stays fs ds a flags none =
     passed_over fs ds a flags
     ∙ over_none fs (map (due_at ds) timeshare_lanes) a (among_map (due_at ds) fs timeshare_lanes ∙ ap (map (due_at ds)) none)
 
--- the same for a table, from what the calls on its fields ensure
-pub more_are : (gs : List Bool) (ds : List ℕ) (t : LaneTable) → record { filled = gs; deadlines = ds } ≡ t → (fs : List Bool) (a : Due) → length fs ≡ 10
-    → (p : ℕ) → p < 10 → slice_get timeshare_lanes p ≡ first_of (filled_among fs timeshare_lanes)
-    → (s : Due) → s ≡ sooner_of a (record { place = p; deadline = slice_index ds p }) → (others : List Bool) → others ≡ behind_first fs
-    → (r : Due) → r ≡ passed others t.deadlines s → r ≡ passed fs t.deadlines a
-more_are gs ds t view fs a flags p small first s sooner others behind r pass =
-    pass
-    ∙ ap (λ hs. passed hs t.deadlines s) behind
-    ∙ ap (passed (behind_first fs) t.deadlines) (sooner ∙ ap (λ (u : LaneTable). sooner_of a (record { place = p; deadline = slice_index u.deadlines p })) view)
-    ∙ sym (pass_from fs t.deadlines a flags p small first)
+-- one lane more of a pass, from what the calls ensure
+pub one_more : (fs gs : List Bool) (ds : List ℕ) (a d s : Due) (p : ℕ) → length fs ≡ 10 → p < 10 → slice_get timeshare_lanes p ≡ first_of (filled_among fs timeshare_lanes)
+    → d ≡ record { index = p; deadline = slice_index ds p } → s ≡ sooner_of a d → gs ≡ behind_first fs → passed gs ds s ≡ passed fs ds a
+one_more fs gs ds a d s p ten small first due sooner behind =
+    ap (λ hs. passed hs ds s) behind
+    ∙ ap (passed (behind_first fs) ds) (sooner ∙ ap (sooner_of a) due)
+    ∙ sym (pass_from fs ds a ten p small first)
 
-pub one_is : (gs : List Bool) (ds : List ℕ) (t : LaneTable) → record { filled = gs; deadlines = ds } ≡ t → (fs : List Bool) (a : Due) → length fs ≡ 10
-    → (p : ℕ) → p < 10 → slice_get timeshare_lanes p ≡ first_of (filled_among fs timeshare_lanes)
-    → (s : Due) → s ≡ sooner_of a (record { place = p; deadline = slice_index ds p }) → (others : List Bool) → others ≡ behind_first fs
-    → filled_among others timeshare_lanes ≡ [] → s ≡ passed fs t.deadlines a
-one_is gs ds t view fs a flags p small first s sooner others behind none =
-    more_are gs ds t view fs a flags p small first s sooner others behind s
-    (sym (pass_stays others t.deadlines s (ap (λ (hs : List Bool). length hs) behind ∙ behind_length fs ∙ flags) none))
+pub sooner_small : (a d s : Due) → a.index < 10 → d.index < 10 → s ≡ sooner_of a d → s.index < 10
+sooner_small a d s x y sooner = subst (λ (e : Due). e.index < 10) (sym sooner) (cond_both (nat_lt d.deadline a.deadline) d a (λ (e : Due). e.index < 10) (λ h. y) (λ h. x))
 
--- the lane that is due first, from what the calls on the fields ensure: where others are behind the highest, and where none is
-pub found_is : (fs : List Bool) (ds : List ℕ) → length fs ≡ 10 → length ds ≡ 10 → (t : LaneTable) → record { filled = fs; deadlines = ds } ≡ t
+-- the lane that is due first, from a pass over those behind the highest
+pub found_is : (fs : List Bool) (ds : List ℕ) → length fs ≡ 10 → length ds ≡ 10
     → (p : ℕ) → p < 10 → slice_get timeshare_lanes p ≡ first_of (filled_among fs timeshare_lanes) → (rest : List Bool) → rest ≡ behind_first fs
-    → (d : Due) → d ≡ passed rest t.deadlines (record { place = p; deadline = slice_index ds p }) → (l : Lane) → slice_get timeshare_lanes d.place ≡ Some l
-    → (ws : List LaneState) → AreWindowsOf t ws → Some l ≡ option_map (λ (e : LaneState). e.lane) (earliest_of (filled_among t.filled ws))
-found_is fs ds flags numbers t view p small first rest behind d pass l at ws are =
-    let here : Due = record { place = p; deadline = slice_index ds p } in
+    → (d : Due) → d ≡ passed rest ds (record { index = p; deadline = slice_index ds p }) → (l : Lane) → slice_get timeshare_lanes d.index ≡ Some l
+    → (ws : List LaneState) → AreStatesOf (record { filled = fs; deadlines = ds }) ws → Some l ≡ option_map (λ (e : LaneState). e.lane) (earliest_of (filled_among fs ws))
+found_is fs ds flags numbers p small first rest behind d pass l at ws are =
     sym at
-    ∙ ap (λ (a : Due). slice_get timeshare_lanes a.place)
-    (pass ∙ ap (λ (u : LaneTable). passed rest u.deadlines here) (sym view) ∙ ap (λ gs. passed gs ds here) behind)
-    ∙ earliest_is fs ds flags numbers p small first ws (subst (λ (u : LaneTable). AreWindowsOf u ws) (sym view) are)
-    ∙ ap (λ (u : LaneTable). option_map (λ (e : LaneState). e.lane) (earliest_of (filled_among u.filled ws))) view
+    ∙ ap (λ (a : Due). slice_get timeshare_lanes a.index) (pass ∙ ap (λ gs. passed gs ds (record { index = p; deadline = slice_index ds p })) behind)
+    ∙ earliest_is fs ds flags numbers p small first ws are
 
-pub alone_is : (fs : List Bool) (ds : List ℕ) → length fs ≡ 10 → length ds ≡ 10 → (t : LaneTable) → record { filled = fs; deadlines = ds } ≡ t
-    → (p : ℕ) → p < 10 → slice_get timeshare_lanes p ≡ first_of (filled_among fs timeshare_lanes) → (rest : List Bool) → rest ≡ behind_first fs
-    → filled_among rest timeshare_lanes ≡ [] → (l : Lane) → slice_get timeshare_lanes p ≡ Some l
-    → (ws : List LaneState) → AreWindowsOf t ws → Some l ≡ option_map (λ (e : LaneState). e.lane) (earliest_of (filled_among t.filled ws))
-alone_is fs ds flags numbers t view p small first rest behind none l at ws are =
-    let here : Due = record { place = p; deadline = slice_index ds p } in
-    let stays = sym (pass_stays (behind_first fs) ds here (behind_length fs ∙ flags) (ap (λ gs. filled_among gs timeshare_lanes) (sym behind) ∙ none)) in
-    found_is fs ds flags numbers t view p small first rest behind here
-    (stays ∙ ap (λ gs. passed gs ds here) (sym behind) ∙ ap (λ (u : LaneTable). passed rest u.deadlines here) view)
-    l at ws are
+-- one lane less is left behind the first
+pub fewer : {X : Type 0} (fs : List Bool) (xs : List X) (o : Option X) → o ≡ first_of (filled_among fs xs) → is_some o ≡ true
+    → length (filled_among (behind_first fs) xs) < length (filled_among fs xs)
+fewer [] xs o first some = absurd (false≢true (sym (ap is_some first) ∙ some))
+fewer (f ∷ fs) [] o first some = absurd (false≢true (sym (ap is_some first) ∙ some))
+fewer (true ∷ fs) (x ∷ xs) o first some = omega arith
+fewer (false ∷ fs) (x ∷ xs) o first some = fewer fs xs o first some
 
 -- none is the first of no list but the empty one
 pub first_none : {X : Type 0} (xs : List X) → None ≡ first_of xs → xs ≡ []
@@ -255,7 +267,7 @@ first_none [] h = refl
 first_none (x ∷ xs) h = absurd cc
 
 pub none_is : (fs : List Bool) (ds : List ℕ) (t : LaneTable) → record { filled = fs; deadlines = ds } ≡ t → None ≡ first_of (filled_among fs timeshare_lanes)
-    → (ws : List LaneState) → AreWindowsOf t ws
+    → (ws : List LaneState) → AreStatesOf t ws
     → None ≡ option_map (λ (e : LaneState). e.lane) (earliest_of (filled_among t.filled ws))
 none_is fs ds t view first ws are =
     let none = first ∙ ap (λ (u : LaneTable). first_of (filled_among u.filled timeshare_lanes)) view in

@@ -1,6 +1,6 @@
 pub mod Flags
 pub mod Tens
-pub mod Ranks
-pub mod Least
+pub mod InOrder
 pub mod Earliest
 pub mod Lowest
+pub mod IndexedLanes

@@ -1,4 +1,4 @@
--- The lowest set bit of a bitmap is the place of its highest lane, and what is left without it.
+-- The lowest set bit of a bitmap is the index of its highest lane, and what is left without it.
 use Rattle.std.proofs.Common.{◌≡◌, ℕ, zero, suc, ◌+◌, ◌<◌, ◌≤◌, ◌^◌, ◌%◌, ◌/◌, ◌==◌, Bool, false, List, min, [], ◌∷◌, length, refl, sym, ap, ◌∙◌, arith}
 use Rattle.std.specs.Prelude.{bit_and, slice_get}
 use Rattle.std.specs.Int.{bit_at}
@@ -9,12 +9,12 @@ use Rattle.flat_policy.specs.Policy.Queue.{timeshare_lanes}
 use Rattle.root_deadlines.specs.Bits.{flag_at, flags_of}
 use Rattle.root_deadlines.specs.Lanes.{behind_first, filled_among, first_of}
 
--- the flags of so many places, from one on
+-- the flags of so many indices, from one on
 abbrev flags_from : ℕ → ℕ → ℕ → List Bool
 flags_from n i zero = []
 flags_from n i (suc m) = flag_at n i ∷ flags_from n (suc i) m
 
--- one place further
+-- one index further
 zeros_step : (k n i : ℕ) → count_trailing_zeros (suc k) (n / 2 ^ i) ≡ under (bit_at n i) (count_trailing_zeros k (n / 2 ^ suc i))
 unfolding count_trailing_zeros
 zeros_step k n i =
@@ -45,7 +45,7 @@ lowest_is n =
 halved : (n i : ℕ) → n / 2 ^ i / 2 ≡ n / 2 ^ suc i
 halved n i = shr-shr n i 1 ∙ ap (λ j. n / 2 ^ j) (omega arith)
 
--- the flags that two numbers share, from one place on
+-- the flags that two numbers share, from one index on
 abbrev shared_from : ℕ → ℕ → ℕ → ℕ → List Bool
 shared_from n k i zero = []
 shared_from n k i (suc m) = (min (bit_at n i) (bit_at k i) == 1) ∷ shared_from n k (suc i) m

@@ -5,7 +5,7 @@ use Rattle.sched_base.specs.declared.buckets.Bucket.{Bucket}
 use Rattle.bucket_tables.specs.declared.Lane.{Lane}
 use Rattle.flat_policy.specs.Policy.Queue.{LaneState, timeshare_lanes}
 
--- the ten lanes, each at its place: whether it is filled, and its deadline
+-- the ten lanes, each at its index: whether it is filled, and its deadline
 pub record LaneTable : Type 0 where
   pub filled : List Bool
   pub deadlines : List ℕ
@@ -39,7 +39,7 @@ higher_than b [] fs = []
 higher_than b (l ∷ ls) [] = []
 higher_than b (l ∷ ls) (f ∷ fs) = (f && nat_lt (index l.bucket) (index b)) ∷ higher_than b ls fs
 
--- the windows of the ten lanes, with the deadlines of the table
-pub record AreWindowsOf (t : LaneTable) (windows : List LaneState) : Type 0 where
-  pub lanes : map (λ (l : LaneState). l.lane) windows ≡ timeshare_lanes
-  pub deadlines : map (λ (l : LaneState). l.deadline) windows ≡ t.deadlines
+-- the states of the ten lanes, with the deadlines of the table
+pub record AreStatesOf (t : LaneTable) (states : List LaneState) : Type 0 where
+  pub lanes : map (λ (l : LaneState). l.lane) states ≡ timeshare_lanes
+  pub deadlines : map (λ (l : LaneState). l.deadline) states ≡ t.deadlines

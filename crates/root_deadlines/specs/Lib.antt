@@ -1,4 +1,4 @@
-pub mod Places
+pub mod Indices
 pub mod Bits
 pub mod Lanes
 pub mod Sooner

@@ -3,11 +3,11 @@ use Rattle.std.specs.Prelude.{Bool, List, false, fold, if◌then◌else◌, nat_
 use Rattle.bucket_tables.specs.declared.Lane.{Lane}
 use Rattle.flat_policy.specs.Policy.Queue.{timeshare_lanes}
 use Rattle.root_deadlines.specs.declared.lanes.Due.{Due}
-use Rattle.root_deadlines.specs.Places.{place_of}
+use Rattle.root_deadlines.specs.Indices.{index_of_lane}
 
--- the place and the deadline of a lane
+-- the index and the deadline of a lane
 abbrev pub due_at : List ℕ → Lane → Due
-due_at ds l = record { place = place_of l; deadline = slice_index ds (place_of l) }
+due_at ds l = record { index = index_of_lane l; deadline = slice_index ds (index_of_lane l) }
 
 -- the sooner of the one found so far and a later one; at one deadline the one found so far
 abbrev pub sooner_of : Due → Due → Due
@@ -20,4 +20,4 @@ sooner_with false found y = found
 
 -- the soonest of the one found so far and those of the ten lanes that count
 abbrev pub passed : List Bool → List ℕ → Due → Due
-passed fs ds first = fold (λ (a : Due) (l : Lane). sooner_with (slice_index_or fs (place_of l) false) a (due_at ds l)) first timeshare_lanes
+passed fs ds first = fold (λ (a : Due) (l : Lane). sooner_with (slice_index_or fs (index_of_lane l) false) a (due_at ds l)) first timeshare_lanes

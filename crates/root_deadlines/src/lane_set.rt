@@ -4,15 +4,15 @@ ghost use Rattle.std.specs.Option.{option_and_then};
 ghost use Rattle.std.specs.Prelude.{◌≡◌, ◌≢◌, ◌-◌, ◌<◌, ◌^◌, ◌↔◌, IfSome, IsTrue, [], false, replicate, slice_get, slice_index_or, slice_set};
 ghost use Rattle.flat_policy.specs.Policy.Queue.{timeshare_lanes};
 ghost use Rattle.root_deadlines.specs.Lanes.{behind_first, filled_among, first_of, higher_than};
-ghost use Rattle.root_deadlines.specs.Places.{bound_place, place_of};
+ghost use Rattle.root_deadlines.specs.Indices.{bound_index, index_of_lane};
 
-use crate::places::place;
+use crate::indices::lane_index;
 use bucket_tables::Lane;
 use sched_base::Bucket;
 use std::marker::Model;
 
-/// Some of the ten timeshare lanes, as a bitmap. Contracts see, for each lane by place, whether it
-/// is in the set.
+/// Some of the ten timeshare lanes, as a bitmap. Contracts see, for each lane by its index,
+/// whether it is in the set.
 #[derive(Drop)]
 pub struct LaneSet {
     bits: u16,
@@ -25,11 +25,15 @@ impl Model for LaneSet {
     ghost Value = { List Bool };
 
     ghost view = { λ set. flags_of set.bits };
+
+    ghost use Rattle.std.specs.Prelude.{◌<◌, ◌^◌};
+
+    ghost invariant = { λ set. set.bits < 2 ^ 10 };
 }
 
 /// The bits of the lanes whose bucket is higher than this one.
 fn bits_above(bucket: Bucket) -> u16
-    ensures { result ≡ 2 ^ bound_place bucket - 1 }
+    ensures { result ≡ 2 ^ bound_index bucket - 1 }
 {
     match bucket {
         Bucket::Ui | Bucket::Fg => 0,
@@ -48,49 +52,54 @@ impl LaneSet {
         LaneSet { bits: 0 }
     }
 
+    /// The same set once more.
+    pub fn copy(&self) -> LaneSet
+        ensures { result ≡ self.now }
+    {
+        LaneSet { bits: self.bits }
+    }
+
     /// Puts a lane into the set, or takes it out. The other lanes stay.
     pub fn set(&mut self, lane: Lane, is_in: bool)
         requires { lane.bucket ≢ Bucket.Ui }
-        ensures { self.new ≡ slice_set self.old (place_of lane) is_in }
+        ensures { self.new ≡ slice_set self.old (index_of_lane lane) is_in }
     {
         if is_in {
-            self.bits |= 1 << place(lane);
+            self.bits |= 1 << lane_index(lane);
         } else {
-            self.bits &= !(1 << place(lane));
+            self.bits &= !(1 << lane_index(lane));
         }
     }
 
     /// Whether a lane is in the set.
     pub fn contains(&self, lane: Lane) -> bool
         requires { lane.bucket ≢ Bucket.Ui }
-        ensures { result ≡ slice_index_or self.now (place_of lane) false }
+        ensures { result ≡ slice_index_or self.now (index_of_lane lane) false }
     {
-        (self.bits >> place(lane)) & 1 == 1
+        (self.bits >> lane_index(lane)) & 1 == 1
     }
 
     /// Whether no lane is in the set.
     pub fn is_empty(&self) -> bool
         ensures { IsTrue result ↔ (filled_among self.now timeshare_lanes ≡ []) }
     {
-        self.bits & 0x3ff == 0
+        self.bits == 0
     }
 
-    /// The place of the highest lane of the set. `None` exactly where no lane is in the set.
-    pub fn highest_place(&self) -> Option<usize>
-        ensures small { IfSome result (λ p. p < 10) }
+    /// Takes the highest lane out of the set, and gives its index. `None` exactly where no lane is in
+    /// the set.
+    pub fn take_highest(&mut self) -> Option<usize>
+        ensures small { IfSome result (λ i. i < 10) }
         ensures highest { option_and_then (slice_get timeshare_lanes) result
-            ≡ first_of (filled_among self.now timeshare_lanes) }
+            ≡ first_of (filled_among self.old timeshare_lanes) }
+        ensures rest { self.new ≡ behind_first self.old }
     {
-        let place = self.bits.trailing_zeros() as usize;
-        if place < 10 { Some(place) } else { None }
-    }
-
-    /// The set without its highest lane. Where no lane is in the set, none is in the result.
-    pub fn behind_highest(&self) -> LaneSet
-        ensures { result ≡ behind_first self.now }
-    {
-        LaneSet {
-            bits: self.bits & self.bits.wrapping_sub(1),
+        let lowest_bit = self.bits.trailing_zeros() as usize;
+        self.bits &= self.bits.wrapping_sub(1);
+        if lowest_bit < 10 {
+            Some(lowest_bit)
+        } else {
+            None
         }
     }
 

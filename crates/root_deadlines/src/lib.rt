@@ -3,14 +3,14 @@
 //! Deadlines are moments in whole microseconds. No call here takes memory or refuses.
 #![tactic(auto)]
 
+pub mod indices;
 pub mod lane_set;
 pub mod lanes;
-pub mod places;
 
 pub use bucket_tables::Lane;
+pub use indices::{lane_at_index, lane_index};
 pub use lane_set::LaneSet;
 pub use lanes::Lanes;
-pub use places::{lane_at, place};
 
 #[cfg(test)]
 mod tests;

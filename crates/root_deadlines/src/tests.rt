@@ -39,11 +39,11 @@ fn the_first_by_deadline_then_bucket_then_bound(rt: HostRuntime) {
 }
 
 #[test]
-fn each_lane_has_a_place(rt: HostRuntime) {
+fn each_lane_has_an_index(rt: HostRuntime) {
     let mut expected = 0;
     bucket_tables::each_lane!(lane => {
-        assert_eq!(rt; place(lane), expected);
-        assert_eq!(rt; lane_at(place(lane)), lane);
+        assert_eq!(rt; lane_index(lane), expected);
+        assert_eq!(rt; lane_at_index(lane_index(lane)), lane);
         expected += 1;
     });
 }

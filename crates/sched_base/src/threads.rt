@@ -8,8 +8,10 @@ use crate::facts::Facts;
 use crate::limits::{MOMENT_LIMIT, MOST_BASE, MOST_RATE};
 use std::marker::Model;
 
-/// A thread. Contracts see its facts. It has no `Drop` and no `Clone`, so code that loses or
-/// doubles one isn't compiled.
+/// A thread. Contracts see its facts. It has no `Clone`, so none is doubled. It has no `Drop`, so
+/// code that loses one by accident isn't compiled: whoever ends one calls `into_facts`, or is a
+/// type with a `Drop` of its own that does. That no thread is lost is for the contracts of those
+/// that hold threads to say.
 pub struct Thread {
     facts: Facts,
 }
@@ -100,7 +102,7 @@ impl Thread {
         self.facts.pending_blocked = 0;
     }
 
-    /// Ends the thread: what it leaves is its facts. This is the one way to let a thread go.
+    /// Ends the thread: what it leaves is its facts. This is how a thread is let go on purpose.
     pub fn into_facts(self) -> Facts
         ensures facts { result ≡ self }
         ensures base { result.base ≤ MOST_BASE }

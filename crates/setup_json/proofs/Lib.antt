@@ -13,3 +13,4 @@ pub mod Passes
 pub mod Rows
 pub mod SetupsInLines
 pub mod Written
+pub mod Called

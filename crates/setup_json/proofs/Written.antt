@@ -2,8 +2,8 @@
 use Rattle.std.proofs.Common.{◌≡◌, ℕ, zero, suc, ◌<◌, ◌≤◌, List, [], ◌∷◌, length, get_or, map, Some, slice_get, refl, sym, ◌∙◌, ap, arith}
 use Rattle.std.proofs.lemmas.List.{length-map}
 use Rattle.std.specs.Option.{option_map_or}
-use Rattle.flat_policy.specs.Policy.BuiltSetups.{IsClusterTimes, IsGroup, IsSetup}
-use Rattle.flat_policy.specs.Policy.Setup.{ClusterParts, SetupParts, cluster_count, cluster_times, cpus_of, group_count, rate_of}
+use Rattle.flat_policy.specs.Policy.BuiltSetups.{IsGroup, IsSetup}
+use Rattle.flat_policy.specs.Policy.Setup.{ClusterParts, SetupParts, cluster_count, cpus_of, group_count, rate_of}
 use Rattle.flat_policy.specs.Texts.SetupLines.{cluster_text, edge_text, numbers_text}
 use Rattle.flat_policy.specs.declared.setup.EdgeSpec.{EdgeSpec}
 use Rattle.setup_json.proofs.Joins.{mapped_at, six_items}
@@ -36,12 +36,9 @@ edge_written [] k e h = cc
 edge_written (x ∷ es) zero e h = let same : x ≡ e = cc in ap edge_text (sym same)
 edge_written (x ∷ es) (suc k) e h = edge_written es k e h
 
--- a group has six numbers, and a cluster six times
+-- a group has six numbers
 pub group_six : (s : SetupParts) (g : ℕ) → IsSetup s → g < group_count s → length (get_or s.groups g []) ≡ 6
 group_six s g is h = let row : IsGroup (cluster_count s) (get_or s.groups g []) = is.groups g [] h in row.six
-
-pub times_six : (s : SetupParts) (c : ℕ) → IsSetup s → c < cluster_count s → length (cluster_times s c) ≡ 6
-times_six s c is h = let row : IsClusterTimes (get_or s.times c []) = is.times c [] (omega (arith, is.times_each)) in row.six
 
 pub six_same : {A : Type 0} → (xs : List A) (x a b c e f g : A) → length xs ≡ 6 → a ≡ get_or xs 0 x → b ≡ get_or xs 1 x → c ≡ get_or xs 2 x → e ≡ get_or xs 3 x → f ≡ get_or xs 4 x → g ≡ get_or xs 5 x
     → a ∷ b ∷ c ∷ e ∷ f ∷ g ∷ [] ≡ xs

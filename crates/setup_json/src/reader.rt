@@ -80,32 +80,28 @@ fn setup_of_numbers(alloc: Global, numbers: &Numbers) -> Result<Setup, SetupErro
 fn setup_of_one(alloc: Global, numbers: &Numbers) -> Result<Setup, SetupError>
     ensures { Reads (λ s. s) result (setup_of (numbers_said numbers.now) None) }
 {
-    match Setup::build(
+    let setup = Setup::build(
         alloc,
         &numbers.clusters,
         &numbers.edges,
         &numbers.groups,
         numbers.threads,
         numbers.version,
-    ) {
-        Ok(setup) => Ok(setup),
-        Err(error) => Err(SetupError::from(error)),
-    }
+    )?;
+    Ok(setup)
 }
 
 /// A setup of version 2.
 fn setup_of_two(alloc: Global, numbers: &Numbers, times: &[TimesRows]) -> Result<Setup, SetupError>
     ensures { Reads (λ s. s) result (setup_of (numbers_said numbers.now) (Some times.now)) }
 {
-    match Setup::build_timed(
+    let setup = Setup::build_timed(
         alloc,
         &numbers.clusters,
         &numbers.edges,
         &numbers.groups,
         numbers.threads,
         times,
-    ) {
-        Ok(setup) => Ok(setup),
-        Err(error) => Err(SetupError::from(error)),
-    }
+    )?;
+    Ok(setup)
 }

@@ -45,29 +45,45 @@ fn setups_are_written_as_their_canonical_text(rt: HostRuntime) -> Result<(), Fai
     Ok(())
 }
 
-/// Eight clusters of one processor, with an edge from each to each other that moves nothing.
-fn every_edge(alloc: Global) -> Result<String, Fail> {
+/// The greatest setup: eight clusters, an edge from each to each other, 64 groups, the most
+/// threads, and times at their greatest.
+fn greatest(alloc: Global) -> Result<String, Fail> {
     let mut line = String::from_str(
         alloc,
-        "{\"clusters\":[[1,1000],[1,1000],[1,1000],[1,1000],[1,1000],[1,1000],[1,1000],[1,1000]],\"edges\":[",
+        "{\"clusters\":[[2,1000],[2,1000],[2,1000],[2,1000],[2,1000],[2,1000],[2,1000],[2,1000]],\"edges\":[",
     )?;
     for from in 0..8 {
         for to in 0..8 {
             if from != to {
                 let comma = if from == 0 && to == 1 { "" } else { "," };
-                line.push_str(format!(in alloc; "{comma}[{from},{to},0,0,0]")?.as_str())?;
+                line.push_str(format!(in alloc; "{comma}[{from},{to},10000000,1,63]")?.as_str())?;
             }
         }
     }
-    line.push_str("],\"groups\":[[0,1,2,3,4,7]],\"threads\":8,\"version\":1}")?;
+    line.push_str("],\"groups\":[[7,6,5,4,3,2]")?;
+    for _ in 1..64 {
+        line.push_str(",[7,6,5,4,3,2]")?;
+    }
+    line.push_str("],\"threads\":4096,\"times\":[")?;
+    let times =
+        "[[0,10000000,10000000,10000000,10000000,10000000],[0,1000000,1000000,1000000,1000000,1000000],[100000,100000,100000,100000,100000,100000]]";
+    line.push_str(times)?;
+    for _ in 1..8 {
+        line.push_str(",")?;
+        line.push_str(times)?;
+    }
+    line.push_str("],\"version\":2}")?;
     Ok(line)
 }
 
 #[test]
-fn a_setup_may_have_every_edge(rt: HostRuntime) -> Result<(), Fail> {
-    let line = every_edge(rt.alloc())?;
+fn the_greatest_setup(rt: HostRuntime) -> Result<(), Fail> {
+    let line = greatest(rt.alloc())?;
     let setup = read_setup(rt.alloc(), line.as_bytes())?;
-    assert_eq!(rt; setup.edge_count(), 56);
+    assert_eq!(rt;
+        (setup.edge_count(), setup.groups(), setup.threads()),
+        (56, 64, 4096)
+    );
     let written = write_setup(rt.alloc(), &setup)?;
     assert_eq!(rt; written.as_slice(), line.as_bytes());
     Ok(())

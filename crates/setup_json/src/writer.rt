@@ -1,7 +1,7 @@
 //! Writing a setup's canonical text.
 
 ghost use Rattle.std.specs.Prelude.{◌≡◌, ◌++◌, ◌<◌, decimal, IfOk, OnOk, map, slice_index_or, []};
-ghost use Rattle.flat_policy.specs.Policy.Setup.{cluster_count, cluster_times, group_count};
+ghost use Rattle.flat_policy.specs.Policy.Setup.{group_count};
 ghost use Rattle.flat_policy.specs.Texts.SetupLines.{bracketed, cluster_text, cluster_times_text, edge_text, numbers_text, setup_text, times_member};
 ghost use Rattle.flat_policy.specs.declared.setup.Times.{Times};
 ghost use Rattle.setup_json.specs.Writes.{comma_before};
@@ -9,6 +9,7 @@ ghost use Rattle.setup_json.specs.Writes.{comma_before};
 use flat_policy::setup::{EdgeSpec, Setup, Times};
 use itoa::Buffer;
 use sched_base::Bucket;
+use sched_base::limits::BUCKET_COUNT;
 use std::alloc::{AllocError, Global};
 
 /// The canonical text of a setup, without a newline: the fields in order, plain decimal numbers
@@ -111,7 +112,7 @@ fn push_groups(text: &mut Vec<u8>, s: &Setup) -> Result<(), AllocError>
 }
 
 /// The preferred clusters of a group, by bucket index.
-fn group_numbers(s: &Setup, g: u8) -> [u64; 6]
+fn group_numbers(s: &Setup, g: u8) -> [u64; BUCKET_COUNT]
     requires { g < group_count s.now }
     ensures { result ≡ slice_index_or s.now.groups g [] }
 {
@@ -144,30 +145,14 @@ fn push_each_times(text: &mut Vec<u8>, s: &Setup) -> Result<(), AllocError>
     text.push(b'[')?;
     for c in 0..s.clusters() {
         push_comma(text, c as usize)?;
-        push_cluster_times(text, &times_by_bucket(s, c))?;
+        push_cluster_times(text, &s.cluster_times(c))?;
     }
     text.push(b']')?;
     Ok(())
 }
 
-/// The times of a cluster, by bucket index.
-fn times_by_bucket(s: &Setup, c: u8) -> [Times; 6]
-    requires { c < cluster_count s.now }
-    ensures { result ≡ cluster_times s.now c }
-{
-    s.keeps_ranges();
-    [
-        s.times(c, Bucket::Ui),
-        s.times(c, Bucket::Fg),
-        s.times(c, Bucket::Ini),
-        s.times(c, Bucket::Df),
-        s.times(c, Bucket::Ut),
-        s.times(c, Bucket::Bg),
-    ]
-}
-
 /// The rows WCEL, WARP and QUANTUM of a cluster.
-fn push_cluster_times(text: &mut Vec<u8>, times: &[Times; 6]) -> Result<(), AllocError>
+fn push_cluster_times(text: &mut Vec<u8>, times: &[Times; BUCKET_COUNT]) -> Result<(), AllocError>
     ensures { OnOk result (text.new.items ≡ text.old.items ++ cluster_times_text times.now) }
 {
     text.push(b'[')?;
@@ -180,44 +165,20 @@ fn push_cluster_times(text: &mut Vec<u8>, times: &[Times; 6]) -> Result<(), Allo
     Ok(())
 }
 
-fn wcels(times: &[Times; 6]) -> [u64; 6]
+fn wcels(times: &[Times; BUCKET_COUNT]) -> [u64; BUCKET_COUNT]
     ensures { result ≡ map (λ (t : Times). t.wcel) times.now }
 {
-    let [ui, fg, ini, df, ut, bg] = *times;
-    [
-        ui.wcel as u64,
-        fg.wcel as u64,
-        ini.wcel as u64,
-        df.wcel as u64,
-        ut.wcel as u64,
-        bg.wcel as u64,
-    ]
+    times.map(|t| t.wcel as u64)
 }
 
-fn warps(times: &[Times; 6]) -> [u64; 6]
+fn warps(times: &[Times; BUCKET_COUNT]) -> [u64; BUCKET_COUNT]
     ensures { result ≡ map (λ (t : Times). t.warp) times.now }
 {
-    let [ui, fg, ini, df, ut, bg] = *times;
-    [
-        ui.warp as u64,
-        fg.warp as u64,
-        ini.warp as u64,
-        df.warp as u64,
-        ut.warp as u64,
-        bg.warp as u64,
-    ]
+    times.map(|t| t.warp as u64)
 }
 
-fn quanta(times: &[Times; 6]) -> [u64; 6]
+fn quanta(times: &[Times; BUCKET_COUNT]) -> [u64; BUCKET_COUNT]
     ensures { result ≡ map (λ (t : Times). t.quantum) times.now }
 {
-    let [ui, fg, ini, df, ut, bg] = *times;
-    [
-        ui.quantum as u64,
-        fg.quantum as u64,
-        ini.quantum as u64,
-        df.quantum as u64,
-        ut.quantum as u64,
-        bg.quantum as u64,
-    ]
+    times.map(|t| t.quantum as u64)
 }

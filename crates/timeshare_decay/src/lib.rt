@@ -7,12 +7,10 @@ ghost use Rattle.std.specs.Prelude.{◌≡◌, ◌≤◌, ◌<◌, ◌+◌, ◌-
 ghost use Rattle.flat_policy.specs.Policy.Usage.{decay, priority, ticks, usage_step};
 
 use sched_base::Bucket;
+use sched_base::limits::{MOST_BASE, TICK};
 
 #[cfg(test)]
 mod tests;
-
-/// The microseconds of a tick.
-const TICK: u64 = 125_000;
 
 /// What is left at the moment `to` of a usage at the moment `from`, all in microseconds: for each
 /// tick between the moments five eighths of it, rounded down. Between moments in the other order
@@ -51,7 +49,7 @@ fn eaten(usage: u32) -> u32
 /// The priority of a thread of a bucket, with a base and a usage in microseconds, among `n`
 /// entries of its unit: the base, which usage lowers to no less than 0 except for `Ui`.
 pub fn priority(base: u8, bucket: Bucket, usage: u32, n: u32) -> u8
-    requires base { base ≤ 127 }
+    requires base { base ≤ MOST_BASE }
     requires entries { 1 ≤ n }
     ensures priority { result ≡ priority base bucket usage n }
     ensures bound { result ≤ base }
@@ -64,11 +62,21 @@ pub fn priority(base: u8, bucket: Bucket, usage: u32, n: u32) -> u8
     }
 }
 
-/// How many microseconds of usage cost one step of priority among `n` entries.
+/// How many microseconds of usage cost one step of priority among `n` entries: 16000 by the number of
+/// entries, of which no more than eight count. A table, since a division costs more.
 fn step(n: u32) -> u32
     requires { 1 ≤ n }
     ensures step { result ≡ usage_step n }
     ensures positive { 0 < result }
 {
-    16_000 / n.min(8)
+    match n {
+        1 => 16_000,
+        2 => 8000,
+        3 => 5333,
+        4 => 4000,
+        5 => 3200,
+        6 => 2666,
+        7 => 2285,
+        _ => 2000,
+    }
 }

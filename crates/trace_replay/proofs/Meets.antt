@@ -3,7 +3,7 @@ use Rattle.std.proofs.Common.{◌≡◌, ℕ, ◌≤◌, ◌<◌, ◌↔◌, ref
 use Rattle.std.specs.Io.KnownBytes.{Appends, Consumes, IsAtEnd}
 use Rattle.std.proofs.lemmas.List.{append-nil}
 use Rattle.sched_base.specs.declared.steps.Step.{Step}
-use Rattle.trace_replay.specs.Outflow.{AppendsPart}
+use Rattle.ports.specs.Devices.{AppendsPart}
 use Rattle.trace_replay.specs.Replay.{output_of, IsInput, IsFirstOutside, Says, IsUncut, IsWhole, HasTaken}
 use Rattle.trace_replay.specs.declared.status.ReplayStatus.{ReplayStatus}
 use Rattle.trace_replay.specs.declared.status.ReplayStatus.TheVariants.{Done, NotYet, WriteFault}

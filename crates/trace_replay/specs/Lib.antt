@@ -2,7 +2,6 @@
 pub mod FirstForm
 pub mod FirstGame
 pub mod Kept
-pub mod Outflow
 pub mod Reading
 pub mod Replay
 pub mod Texts

@@ -5,7 +5,7 @@ use Rattle.std.specs.Option.{option_and_then, option_map_or}
 use Rattle.std.specs.Io.KnownBytes.{Appends}
 use Rattle.sched_base.specs.declared.steps.Step.{Step}
 use Rattle.trace_replay.specs.FirstGame.{Game, empty, effective, outcome}
-use Rattle.trace_replay.specs.Outflow.{AppendsPart}
+use Rattle.ports.specs.Devices.{AppendsPart}
 use Rattle.trace_replay.specs.Texts.{IsInForm, step_line, output_line}
 use Rattle.trace_replay.specs.declared.status.ReplayStatus.{ReplayStatus}
 use Rattle.trace_replay.specs.declared.status.ReplayStatus.TheVariants.{Done, Usage, NotYet, ReadFault, WriteFault, OutOfMemory}

@@ -8,7 +8,6 @@
 mod intake;
 pub mod laws;
 mod machine;
-mod outflow;
 mod queue;
 mod reading;
 mod replay;

@@ -5,16 +5,15 @@ ghost use Rattle.sched_base.specs.declared.steps.Step.{Step};
 ghost use Rattle.ports.specs.Devices.{Rose};
 ghost use Rattle.trace_replay.specs.FirstGame.{empty};
 ghost use Rattle.trace_replay.specs.Replay.{lines_of, written, AreAnswered, IsInput, output_of, IsOutside, IsFirstOutside, Says, IsUncut, IsSilent, IsJudged, IsWhole, HasTaken};
-ghost use Rattle.trace_replay.specs.Outflow.{AppendsPart};
+ghost use Rattle.ports.specs.Devices.{AppendsPart};
 ghost use Rattle.std.specs.Io.KnownBytes.{Appends, IsAtEnd};
 
 use crate::intake::{MOST, Taken, read_all};
 use crate::machine::Machine;
-use crate::outflow::write_all;
 use crate::reading::read_step;
 use crate::status::ReplayStatus;
 use crate::writing::write_line;
-use ports::{Sink, Source};
+use ports::{Sink, Source, put_all};
 use sched_base::Step;
 use std::alloc::{AllocError, Global};
 
@@ -93,7 +92,7 @@ fn answer_input<K: Sink>(alloc: Global, input: &[u8], sink: &mut K) -> ReplaySta
     ensures cause { result ≡ ReplayStatus.WriteFault → Rose (K.faults sink.old) (K.faults sink.new) }
 {
     match replayed(alloc, input) {
-        Ok(out) => match write_all(sink, out.as_bytes()) {
+        Ok(out) => match put_all(sink, out.as_bytes()) {
             Ok(()) => ReplayStatus::Done,
             Err(_) => ReplayStatus::WriteFault,
         },

@@ -15,3 +15,4 @@ pub mod StepsBack
 pub mod Texts
 pub mod WholeLines
 pub mod NoWord
+pub mod Fitting

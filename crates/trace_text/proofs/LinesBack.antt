@@ -17,7 +17,7 @@ use Rattle.trace_text.proofs.Readings.{and_then_ok, ok_is}
 use Rattle.trace_text.proofs.Splitting.{first_piece}
 use Rattle.trace_text.proofs.StepsBack.{step_back}
 use Rattle.trace_text.proofs.WholeLines.{answered_pieces, answered_spaced, answers_again, steps_again}
-use Rattle.trace_text.specs.Laws.{LinesAreExact, ReadLinesAreTexts, ReadLinesFit, given_line}
+use Rattle.trace_text.specs.Laws.{LinesAreExact, given_line}
 use Rattle.trace_text.specs.Writing.{AnswerFits, GivenFits, StepFits}
 use Rattle.flat_policy.specs.declared.texts.LineFault.TheVariants as line_faults
 
@@ -104,15 +104,12 @@ given_spaced : (s : Step) (o : Option Answer) → spaced (given_pieces s o) ≡ 
 given_spaced s None = refl
 given_spaced s (Some a) = sym (answered_spaced s a)
 
-pub lines_fit : ReadLinesFit
-lines_fit = λ line g e. (line_back line g e).fits
-
-pub lines_are_texts : ReadLinesAreTexts
-lines_are_texts = λ line g e. sym (spaced_pieces line) ∙ ap spaced (line_back line g e).pieces ∙ given_spaced g.step g.answer
+line_is_text : (line : List ℕ) (g : Given) → read_step_line line ≡ Ok g → line ≡ given_line g.step g.answer
+line_is_text line g e = sym (spaced_pieces line) ∙ ap spaced (line_back line g e).pieces ∙ given_spaced g.step g.answer
 
 text_again : (s : Step) (o : Option Answer) → StepFits s → IfSome o AnswerFits → read_step_line (given_line s o) ≡ Ok (record { step = s; answer = o })
 text_again s None fits ok = steps_again s fits
 text_again s (Some a) fits ok = (answers_again s a fits ok).1
 
 pub lines_exact : LinesAreExact
-lines_exact = λ line g. (λ e. (lines_fit line g e, lines_are_texts line g e), λ h. ap read_step_line h.1 ∙ text_again g.step g.answer h.0.step h.0.answer)
+lines_exact = λ line g. (λ e. ((line_back line g e).fits, line_is_text line g e), λ h. ap read_step_line h.1 ∙ text_again g.step g.answer h.0.step h.0.answer)

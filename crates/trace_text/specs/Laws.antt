@@ -1,8 +1,12 @@
 -- What is written is read again, and what is read is what is written.
-use Rattle.std.specs.Prelude.{List, None, Ok, Option, Some, codes, ℕ, ◌++◌, ◌≡◌, ◌↔◌}
+use Rattle.std.specs.Prelude.{All, IsTrue, List, None, Ok, Option, Some, codes, ℕ, ◌++◌, ◌≡◌, ◌↔◌}
 use Rattle.sched_base.specs.declared.Answer.{Answer}
+use Rattle.sched_base.specs.declared.Entry.{Entry}
 use Rattle.sched_base.specs.declared.Step.{Step}
 use Rattle.flat_policy.specs.declared.texts.Given.{Given}
+use Rattle.flat_policy.specs.Policy.BuiltSetups.{IsSetup}
+use Rattle.flat_policy.specs.Policy.Machine.{MachineState, RunsFrom, fits_step}
+use Rattle.flat_policy.specs.Policy.Setup.{SetupParts}
 use Rattle.flat_policy.specs.Texts.Answers.{answer_text}
 use Rattle.flat_policy.specs.Texts.Lines.{RunSays, answered_text, newline, program_text, read_run_line, read_step_line}
 use Rattle.flat_policy.specs.Texts.Steps.{step_text}
@@ -29,23 +33,21 @@ abbrev pub given_line : Step → Option Answer → List ℕ
 given_line s None = step_text s
 given_line s (Some a) = answered_line s a
 
--- what is read may be written
-abbrev pub ReadLinesFit : Type 0
-ReadLinesFit = (line : List ℕ) (g : Given) → read_step_line line ≡ Ok g → GivenFits g
-
--- each value has one text: a line is the text of what it is read as
-abbrev pub ReadLinesAreTexts : Type 0
-ReadLinesAreTexts = (line : List ℕ) (g : Given) → read_step_line line ≡ Ok g → line ≡ given_line g.step g.answer
-
--- so a line is read as a value exactly where that fits and the line is its text
+-- each value has one text: a line is read as a value exactly where that fits and the line is its text
 abbrev pub LinesAreExact : Type 0
 LinesAreExact =
     (line : List ℕ) (g : Given) → (read_step_line line ≡ Ok g) ↔ (GivenFits g × (line ≡ given_line g.step g.answer))
 
--- so with the lines of a run, and with its thread lines alone
+-- so with the lines of a run
 abbrev pub RunLinesAreExact : Type 0
 RunLinesAreExact = (line : List ℕ) (r : RunSays) → (read_run_line line ≡ Ok r) ↔ (SaysFits r × (line ≡ says_text r))
 
+-- so with thread lines alone
 abbrev pub ProgramLinesAreExact : Type 0
 ProgramLinesAreExact =
     (line : List ℕ) (p : Program) → (read_program_line line ≡ Ok p) ↔ (ProgramFits p × (line ≡ program_text p))
+
+-- a step that a built setup fits has a text, and so has each step of a history of the machine
+pub record FittingStepsHaveTexts : Type 0 where
+  pub step : (setup : SetupParts) (s : Step) → IsSetup setup → IsTrue (fits_step setup s) → StepFits s
+  pub history : (setup : SetupParts) (g end : MachineState) (es : List Entry) → IsSetup setup → RunsFrom setup g es end → All (λ (e : Entry). StepFits e.step) es

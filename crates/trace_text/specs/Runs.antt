@@ -1,5 +1,6 @@
 -- What a line of a run says, as it is kept.
 use Rattle.std.specs.Prelude.{All, IfSome, List, Result, [], codes, drop, length, replicate, take, ℕ, ⊤, ◌%◌, ◌-◌, ◌<◌, ◌^◌, ◌≡◌, ◌≤◌, ◌∷◌}
+use Rattle.sched_base.specs.Limits.{most_base, most_span, most_spans}
 use Rattle.flat_policy.specs.declared.texts.LineFault.{LineFault}
 use Rattle.flat_policy.specs.declared.texts.Power.{Power}
 use Rattle.flat_policy.specs.declared.texts.ProgramLine.{ProgramLine}
@@ -14,9 +15,10 @@ abbrev pub program_of : ProgramLine → Program
 program_of p =
     record { name = p.name; group = p.group; bucket = p.bucket; base = p.base; bound = p.bound; spans = take p.count p.spans }
 
--- the spans past the count are 0
-abbrev pub HasNoMoreSpans : ProgramLine → Type 0
-HasNoMoreSpans p = drop p.count p.spans ≡ replicate (15 - p.count) 0
+-- the spans of a program stand first in the list, 15 at the most, and those past them are 0
+pub record HasItsSpans (p : ProgramLine) : Type 0 where
+  pub few : p.count ≤ most_spans
+  pub unused : drop p.count p.spans ≡ replicate (most_spans - p.count) 0
 
 abbrev pub power_of : Power → PowerAt
 power_of p = record { cluster = p.cluster; on = p.on; turn = p.turn }
@@ -26,14 +28,15 @@ abbrev pub run_says : RunLine → RunSays
 run_says (run_lines.Thread p) = program_line (program_of p)
 run_says (run_lines.Power p) = power_line (power_of p)
 
-abbrev pub HasNoMoreSpansIn : RunLine → Type 0
-HasNoMoreSpansIn (run_lines.Thread p) = HasNoMoreSpans p
-HasNoMoreSpansIn (run_lines.Power p) = ⊤
+abbrev pub HasItsSpansIn : RunLine → Type 0
+HasItsSpansIn (run_lines.Thread p) = HasItsSpans p
+HasItsSpansIn (run_lines.Power p) = ⊤
 
--- the program of a line of a run, where that is a thread line
+-- the word of a thread line
 abbrev pub thread_word : List (Worded ⊤)
 thread_word = worded (codes "thread") tt ∷ []
 
+-- the program of a line of a run, where that is a thread line
 abbrev pub read_thread_pieces : List (List ℕ) → Result Program LineFault
 read_thread_pieces ps = and_then (next_piece (word_among thread_word) ps) (λ w. program_at w.1)
 
@@ -42,17 +45,17 @@ read_program_line line = within_limit line (read_thread_pieces (pieces line))
 
 -- a span is 1 to 10,000,000
 abbrev pub SpanFits : ℕ → Type 0
-SpanFits n = (1 ≤ n) × (n ≤ 10000000)
+SpanFits n = (1 ≤ n) × (n ≤ most_span)
 
 -- the numbers of a program are in the ranges of lines, and its spans are 1 to 15 and an odd number of them
 pub record ProgramFits (p : Program) : Type 0 where
   pub name : p.name < 2 ^ 32
   pub group : p.group ≤ 63
-  pub base : p.base ≤ 127
+  pub base : p.base ≤ most_base
   pub bound : IfSome p.bound (λ c. c ≤ 15)
   pub spans : All SpanFits p.spans
   pub odd : length p.spans % 2 ≡ 1
-  pub few : length p.spans ≤ 15
+  pub few : length p.spans ≤ most_spans
 
 -- the numbers of a power
 pub record PowerFits (p : PowerAt) : Type 0 where

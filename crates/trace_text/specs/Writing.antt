@@ -1,5 +1,6 @@
 -- Steps and answers whose numbers are in the ranges of lines, and how their texts stand.
 use Rattle.std.specs.Prelude.{IfSome, List, codes, ℕ, ⊤, ◌++◌, ◌<◌, ◌^◌, ◌≡◌, ◌≤◌}
+use Rattle.sched_base.specs.Limits.{moment_limit, most_base}
 use Rattle.sched_base.specs.declared.Act.{Act}
 use Rattle.sched_base.specs.declared.Answer.{Answer}
 use Rattle.sched_base.specs.declared.Place.{Place}
@@ -15,56 +16,42 @@ use Rattle.sched_base.specs.declared.Place.TheVariants as places
 -- the numbers of an act are in the ranges of lines
 abbrev pub ActFits : Act → Type 0
 ActFits (acts.Make name group bucket base bound) =
-    (name < 2 ^ 32) × (group ≤ 63) × (base ≤ 127) × IfSome bound (λ c. c ≤ 15)
+    (name < 2 ^ 32) × (group ≤ 63) × (base ≤ most_base) × IfSome bound (λ c. c ≤ 15)
 ActFits (acts.Enter c head) = c ≤ 15
-ActFits acts.Select = ⊤
 ActFits (acts.Offer c) = c ≤ 15
 ActFits (acts.Pull name) = name < 2 ^ 32
 ActFits (acts.Look c) = c ≤ 15
-ActFits acts.Aim = ⊤
 ActFits (acts.Ran us) = us < 2 ^ 32
-ActFits acts.Sleep = ⊤
 ActFits (acts.Wake name) = name < 2 ^ 32
-ActFits acts.End = ⊤
-ActFits acts.Blocked = ⊤
-ActFits acts.Refresh = ⊤
 ActFits (acts.Off c) = c ≤ 15
 ActFits (acts.On c) = c ≤ 15
+ActFits _ = ⊤
 
 -- the numbers of a step
 pub record StepFits (s : Step) : Type 0 where
-  pub moment : s.moment < 2 ^ 40
+  pub moment : s.moment < moment_limit
   pub actor : s.actor ≤ 15
   pub act : ActFits s.act
 
--- the numbers of a place, and of an answer
+-- the numbers of a place
 abbrev pub PlaceFits : Place → Type 0
 PlaceFits (places.Queue c) = c ≤ 15
 PlaceFits (places.Hand a) = a ≤ 15
-PlaceFits places.Blocked = ⊤
-PlaceFits places.Ended = ⊤
-PlaceFits places.Nowhere = ⊤
+PlaceFits _ = ⊤
 
+-- the numbers of an answer
 abbrev pub AnswerFits : Answer → Type 0
-AnswerFits answers.Yes = ⊤
-AnswerFits (answers.Pri p) = p ≤ 127
+AnswerFits (answers.Pri p) = p ≤ most_base
 AnswerFits (answers.Got name) = name < 2 ^ 32
-AnswerFits answers.Empty = ⊤
-AnswerFits answers.Off = ⊤
 AnswerFits (answers.Load l) = l < 2 ^ 32
 AnswerFits (answers.To c) = c ≤ 15
 AnswerFits (answers.New n) = n < 2 ^ 32
 AnswerFits (answers.Left n) = n < 2 ^ 32
 AnswerFits (answers.Work w) = w < 2 ^ 64
-AnswerFits answers.HandFull = ⊤
-AnswerFits answers.HandEmpty = ⊤
-AnswerFits answers.NameUsed = ⊤
-AnswerFits answers.NoRoom = ⊤
 AnswerFits (answers.NotBlocked place) = PlaceFits place
 AnswerFits (answers.NotQueued place) = PlaceFits place
-AnswerFits answers.OwnCluster = ⊤
-AnswerFits answers.NotAllowed = ⊤
 AnswerFits (answers.LookFirst c) = c ≤ 15
+AnswerFits _ = ⊤
 
 -- the numbers of a step and of the answer that is given to it, if one
 pub record GivenFits (g : Given) : Type 0 where

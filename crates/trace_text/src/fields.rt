@@ -22,6 +22,14 @@ use crate::pieces::{Pieces, next};
 use crate::words::{bucket_of, end_of};
 use flat_policy::texts::LineFault;
 use sched_base::Bucket;
+use sched_base::limits::{CLUSTERS_OF_LINES, MOMENT_LIMIT, MOST_ACTORS, MOST_BASE, MOST_GROUPS};
+
+/// The greatest numbers that a line may give a group, a cluster and an actor.
+const LAST_GROUP: u8 = MOST_GROUPS as u8 - 1;
+
+const LAST_CLUSTER: u8 = CLUSTERS_OF_LINES as u8 - 1;
+
+const LAST_ACTOR: u8 = MOST_ACTORS as u8 - 1;
 
 /// A number of at most so much.
 pub fn number_at(pieces: Pieces<'_>, most: u64) -> Result<(u64, Pieces<'_>), LineFault>
@@ -52,31 +60,31 @@ pub fn wide_at(pieces: Pieces<'_>) -> Result<(u32, Pieces<'_>), LineFault>
 pub fn group_at(pieces: Pieces<'_>) -> Result<(u8, Pieces<'_>), LineFault>
     ensures { Gives (λ x. (x.0, left x.1)) result (group_at (left pieces.entry)) }
 {
-    small_at(pieces, 63)
+    small_at(pieces, LAST_GROUP)
 }
 
 pub fn base_at(pieces: Pieces<'_>) -> Result<(u8, Pieces<'_>), LineFault>
     ensures { Gives (λ x. (x.0, left x.1)) result (base_at (left pieces.entry)) }
 {
-    small_at(pieces, 127)
+    small_at(pieces, MOST_BASE)
 }
 
 pub fn cluster_at(pieces: Pieces<'_>) -> Result<(u8, Pieces<'_>), LineFault>
     ensures { Gives (λ x. (x.0, left x.1)) result (cluster_at (left pieces.entry)) }
 {
-    small_at(pieces, 15)
+    small_at(pieces, LAST_CLUSTER)
 }
 
 pub fn actor_at(pieces: Pieces<'_>) -> Result<(u8, Pieces<'_>), LineFault>
     ensures { Gives (λ x. (x.0, left x.1)) result (actor_at (left pieces.entry)) }
 {
-    small_at(pieces, 15)
+    small_at(pieces, LAST_ACTOR)
 }
 
 pub fn moment_at(pieces: Pieces<'_>) -> Result<(u64, Pieces<'_>), LineFault>
     ensures { Gives (λ x. (x.0, left x.1)) result (moment_at (left pieces.entry)) }
 {
-    number_at(pieces, (1 << 40) - 1)
+    number_at(pieces, MOMENT_LIMIT - 1)
 }
 
 fn bound_in(piece: &[u8]) -> Result<Option<u8>, LineFault>
@@ -85,7 +93,7 @@ fn bound_in(piece: &[u8]) -> Result<Option<u8>, LineFault>
     match piece {
         b"-" => Ok(None),
         _ => {
-            let cluster = read_numeral(piece, 15)?;
+            let cluster = read_numeral(piece, u64::from(LAST_CLUSTER))?;
             Ok(Some(cluster as u8))
         }
     }

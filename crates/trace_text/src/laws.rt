@@ -2,10 +2,9 @@
 
 ghost use Rattle.trace_text.specs.Laws.{
   AnswersReadAgain,
+  FittingStepsHaveTexts,
   LinesAreExact,
   ProgramLinesAreExact,
-  ReadLinesAreTexts,
-  ReadLinesFit,
   RunLinesAreExact,
   StepsReadAgain,
 };
@@ -22,18 +21,7 @@ pub fn answers_read_again()
     ensures { AnswersReadAgain }
 {}
 
-/// The numbers of what a line is read as are in the ranges of lines, so that it may be written.
-pub fn read_lines_fit()
-    ensures { ReadLinesFit }
-{}
-
-/// Each value has one text: a line is the text of the step that it is read as, with the answer that
-/// it gives, if one.
-pub fn read_lines_are_texts()
-    ensures { ReadLinesAreTexts }
-{}
-
-/// A line is read as a value exactly where the value's numbers are in the ranges of lines and the
+/// Each value has one text: a line is read as a value exactly where the value's numbers are in the ranges of lines and the
 /// line is its text.
 pub fn lines_are_exact()
     ensures { LinesAreExact }
@@ -48,4 +36,9 @@ pub fn run_lines_are_exact()
 /// So is a thread line alone.
 pub fn program_lines_are_exact()
     ensures { ProgramLinesAreExact }
+{}
+
+/// A step that a built setup fits has a text, and so has each step of a history of the machine.
+pub fn fitting_steps_have_texts()
+    ensures { FittingStepsHaveTexts }
 {}

@@ -11,9 +11,7 @@ use crate::answers::answer_at;
 use crate::pieces::{Pieces, at_end, next, pieces_of};
 use flat_policy::texts::{Given, LineFault};
 use sched_base::Step;
-
-/// The longest line, in bytes without its newline.
-pub const LONGEST: usize = 256;
+use sched_base::limits::LINE_BYTES;
 
 /// What a line gives whose step is followed by this word: an answer, after `=`, to its end.
 fn answered(step: Step, word: &[u8], pieces: Pieces<'_>) -> Result<Given, LineFault>
@@ -61,7 +59,7 @@ pub fn read_step(line: &[u8]) -> Result<Given, LineFault>
     // So what was read may be written.
     ensures fits { IfOk result GivenFits }
 {
-    if line.len() > LONGEST {
+    if line.len() > LINE_BYTES {
         return Err(LineFault::Long);
     }
     given_of(line)

@@ -1,6 +1,6 @@
 //! Lines of a run, read.
 
-ghost use Rattle.std.specs.Prelude.{◌≡◌, ◌-◌, IfOk, drop, replicate, take};
+ghost use Rattle.std.specs.Prelude.{◌≡◌, ◌≤◌, ◌-◌, IfOk, drop, replicate, take};
 ghost use Rattle.flat_policy.specs.Texts.Lines.{
   power_at,
   program_at,
@@ -13,8 +13,8 @@ ghost use Rattle.flat_policy.specs.Texts.Pieces.{next_piece, pieces, word_among}
 ghost use Rattle.trace_text.specs.Naming.{run_behind, run_names};
 ghost use Rattle.trace_text.specs.Reading.{Gives, left};
 ghost use Rattle.trace_text.specs.Runs.{
-  HasNoMoreSpans,
-  HasNoMoreSpansIn,
+  HasItsSpans,
+  HasItsSpansIn,
   ProgramFits,
   SaysFits,
   power_of,
@@ -25,26 +25,26 @@ ghost use Rattle.trace_text.specs.Runs.{
 };
 
 use crate::fields::{base_at, bound_at, bucket_at, cluster_at, group_at, number_at, wide_at};
-use crate::lines::LONGEST;
 use crate::pieces::{Pieces, at_end, is_done, next, pieces_of};
 use crate::words::{RunWord, run_word};
 use flat_policy::texts::{LineFault, Power, ProgramLine, RunLine};
+use sched_base::limits::{LINE_BYTES, MOST_SPAN, MOST_SPANS, MOST_TURNS};
 
 /// How many pairs of a sleep and a run may follow the first run.
-const PAIRS: usize = 7;
+const PAIRS: usize = (MOST_SPANS - 1) / 2;
 
 /// The spans of a program: the first so many of the list, and 0 in the others.
 #[derive(Clone, Copy)]
 struct Spans {
-    list: [u32; 15],
+    list: [u32; MOST_SPANS],
     count: u8,
 }
 
-/// A span: work or microseconds, 1 to 10,000,000.
+/// A span: units of work or microseconds, 1 to 10,000,000.
 fn span_at(pieces: Pieces<'_>) -> Result<(u32, Pieces<'_>), LineFault>
     ensures { Gives (λ x. (x.0, left x.1)) result (next_piece span_within (left pieces.entry)) }
 {
-    let (number, rest) = number_at(pieces, 10_000_000)?;
+    let (number, rest) = number_at(pieces, u64::from(MOST_SPAN))?;
     if number == 0 {
         return Err(LineFault::Range);
     }
@@ -55,10 +55,11 @@ fn span_at(pieces: Pieces<'_>) -> Result<(u32, Pieces<'_>), LineFault>
 /// run.
 fn spans_at(pieces: Pieces<'_>) -> Result<Spans, LineFault>
     ensures exact { Gives (λ s. take s.count s.list) result (spans_at (left pieces.entry)) }
-    ensures unused { IfOk result (λ s. drop s.count s.list ≡ replicate (15 - s.count) 0) }
+    ensures few { IfOk result (λ s. s.count ≤ MOST_SPANS) }
+    ensures unused { IfOk result (λ s. drop s.count s.list ≡ replicate (MOST_SPANS - s.count) 0) }
 {
     let (first, mut rest) = span_at(pieces)?;
-    let mut list = [0; 15];
+    let mut list = [0; MOST_SPANS];
     list[0] = first;
     let mut count: usize = 1;
     for _ in 0..PAIRS {
@@ -79,7 +80,7 @@ fn spans_at(pieces: Pieces<'_>) -> Result<Spans, LineFault>
 /// A thread line, after its word.
 fn program_at(pieces: Pieces<'_>) -> Result<ProgramLine, LineFault>
     ensures exact { Gives program_of result (program_at (left pieces.entry)) }
-    ensures unused { IfOk result HasNoMoreSpans }
+    ensures spans { IfOk result HasItsSpans }
 {
     let (name, rest) = wide_at(pieces)?;
     let (group, rest) = group_at(rest)?;
@@ -104,7 +105,7 @@ fn power_at(on: bool, pieces: Pieces<'_>) -> Result<Power, LineFault>
     ensures { Gives power_of result (power_at on (left pieces.entry)) }
 {
     let (cluster, rest) = cluster_at(pieces)?;
-    let (turn, rest) = number_at(rest, 4999)?;
+    let (turn, rest) = number_at(rest, u64::from(MOST_TURNS - 1))?;
     let power = Power {
         cluster,
         on,
@@ -126,7 +127,7 @@ fn run_word_at(pieces: Pieces<'_>) -> Result<(RunWord, Pieces<'_>), LineFault>
 /// What stands behind the word of a line of a run.
 fn run_behind(word: RunWord, pieces: Pieces<'_>) -> Result<RunLine, LineFault>
     ensures exact { Gives run_says result (run_behind word (left pieces.entry)) }
-    ensures unused { IfOk result HasNoMoreSpansIn }
+    ensures spans { IfOk result HasItsSpansIn }
 {
     match word {
         RunWord::Thread => Ok(RunLine::Thread(program_at(pieces)?)),
@@ -138,7 +139,7 @@ fn run_behind(word: RunWord, pieces: Pieces<'_>) -> Result<RunLine, LineFault>
 #[tactic(auto, using(crate::proofs::Naming::run_by_name))]
 fn run_at(pieces: Pieces<'_>) -> Result<RunLine, LineFault>
     ensures exact { Gives run_says result (read_run_pieces (left pieces.entry)) }
-    ensures unused { IfOk result HasNoMoreSpansIn }
+    ensures spans { IfOk result HasItsSpansIn }
 {
     let (word, rest) = run_word_at(pieces)?;
     run_behind(word, rest)
@@ -146,7 +147,7 @@ fn run_at(pieces: Pieces<'_>) -> Result<RunLine, LineFault>
 
 fn thread_at(pieces: Pieces<'_>) -> Result<ProgramLine, LineFault>
     ensures exact { Gives program_of result (read_thread_pieces (left pieces.entry)) }
-    ensures unused { IfOk result HasNoMoreSpans }
+    ensures spans { IfOk result HasItsSpans }
 {
     let (word, rest) = next(pieces)?;
     match word {
@@ -165,9 +166,9 @@ pub fn read_program(line: &[u8]) -> Result<ProgramLine, LineFault>
     // What is read is the definition's program, with the first `count` spans.
     ensures exact { Gives program_of result (read_program_line line.now) }
     ensures fits { IfOk result (λ p. ProgramFits (program_of p)) }
-    ensures unused { IfOk result HasNoMoreSpans }
+    ensures spans { IfOk result HasItsSpans }
 {
-    if line.len() > LONGEST {
+    if line.len() > LINE_BYTES {
         return Err(LineFault::Long);
     }
     thread_at(pieces_of(line))
@@ -180,9 +181,9 @@ pub fn read_program(line: &[u8]) -> Result<ProgramLine, LineFault>
 pub fn read_run(line: &[u8]) -> Result<RunLine, LineFault>
     ensures exact { Gives run_says result (read_run_line line.now) }
     ensures fits { IfOk result (λ r. SaysFits (run_says r)) }
-    ensures unused { IfOk result HasNoMoreSpansIn }
+    ensures spans { IfOk result HasItsSpansIn }
 {
-    if line.len() > LONGEST {
+    if line.len() > LINE_BYTES {
         return Err(LineFault::Long);
     }
     run_at(pieces_of(line))

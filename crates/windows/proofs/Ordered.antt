@@ -1,13 +1,14 @@
 -- Lanes in their order: the first of them is the one that none stands higher than.
-use Rattle.std.proofs.Common.{◌≡◌, Bool, true, false, not, cond, List, [], ◌∷◌, map, filter, find, Some, refl, sym, ap, ◌∙◌, arith}
+use Rattle.std.proofs.Common.{◌≡◌, Bool, true, false, not, cond, List, [], ◌∷◌, map, filter, find, Some, refl, sym, ap, ◌∙◌}
 use Rattle.std.specs.List.{list_all, list_any}
-use Rattle.std.proofs.lemmas.Bool.{and_from, and_parts, le-ltb, or_from}
+use Rattle.std.proofs.lemmas.Bool.{and_from, and_parts, or_from}
 use Rattle.bucket_tables.specs.declared.Lane.{Lane}
 use Rattle.flat_policy.specs.Policy.Queue.{LaneState}
 use Rattle.flat_policy.specs.Policy.Unpreceded.{unpreceded}
 use Rattle.flat_policy.specs.Policy.Windows.{stands_higher}
+use Rattle.flat_policy.proofs.Chosen.{higher_irreflexive}
 use Rattle.root_deadlines.specs.Lanes.{filled_among, first_of}
-use Rattle.root_deadlines.proofs.Ranks.{higher_by_rank, in_order, not_back, rank}
+use Rattle.root_deadlines.proofs.InOrder.{in_order, not_back}
 
 abbrev pub lanes_of : List LaneState → List Lane
 lanes_of ws = map (λ (w : LaneState). w.lane) ws
@@ -86,5 +87,5 @@ highest_is_first (w ∷ ws) h =
     let higher = λ (x y : LaneState). stands_higher x.lane y.lane in
     ap (λ b. cond (not b) (Some w) (find (λ x. not (list_any (λ y. higher y x) (w ∷ ws))) ws))
     (or_from (stands_higher w.lane w.lane) (list_any (λ (y : LaneState). stands_higher y.lane w.lane) ws)
-    (higher_by_rank w.lane w.lane ∙ le-ltb (rank w.lane) (rank w.lane) (omega arith))
+    (higher_irreflexive w.lane)
     (none_higher w ws parts.0))

@@ -3,3 +3,4 @@ pub mod WindowStates
 pub mod Views
 pub mod Passing
 pub mod Flags
+pub mod Steps

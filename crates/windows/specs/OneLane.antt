@@ -1,14 +1,11 @@
 -- The windows of one lane.
-use Rattle.std.specs.Prelude.{Bool, List, false, nat_le, true, ℕ, ◌||◌}
+use Rattle.std.specs.Prelude.{Bool, None, Option, Some, false, nat_le, true, ℕ, ◌||◌, ◌≡◌}
 use Rattle.bucket_tables.specs.declared.Lane.{Lane}
 use Rattle.flat_policy.specs.declared.lanes.Starved.{Starved}
 use Rattle.flat_policy.specs.declared.lanes.Starved.TheVariants.{No, Since}
 use Rattle.flat_policy.specs.declared.lanes.Warp.{Warp}
 use Rattle.flat_policy.specs.declared.lanes.Warp.TheVariants.{Spent, Until, Unused}
-use Rattle.flat_policy.specs.declared.setup.Times.{Times}
 use Rattle.flat_policy.specs.Policy.Queue.{LaneState}
-use Rattle.flat_policy.specs.Policy.Setup.{times_for}
-use Rattle.flat_policy.specs.Policy.Windows.{window_over}
 use Rattle.windows.specs.declared.window.Window.{Window}
 
 -- the windows with the lane
@@ -20,12 +17,6 @@ abbrev pub warp_runs : Warp → Bool
 warp_runs Unused = false
 warp_runs (Until end) = true
 warp_runs Spent = false
-
--- a warp has not begun
-abbrev pub is_unused : Warp → Bool
-is_unused Unused = true
-is_unused (Until end) = false
-is_unused Spent = false
 
 -- a starvation window runs while it is there
 abbrev pub starves : Starved → Bool
@@ -42,6 +33,7 @@ warp_ends now Unused = false
 warp_ends now (Until end) = nat_le end now
 warp_ends now Spent = false
 
--- a lane's windows change when they expire
-abbrev pub is_ending : List Times → ℕ → LaneState → Bool
-is_ending ts now l = warp_ends now l.warp || window_over (times_for ts l.lane.bucket).quantum now l.starved
+-- a change comes to a state: to the changed windows, or to those before where there is no change
+abbrev pub IsChange : Lane → Window → Option Window → LaneState → Type 0
+IsChange at w None after = after ≡ lane_window at w
+IsChange at w (Some v) after = after ≡ lane_window at v

@@ -6,16 +6,16 @@ ghost use Rattle.flat_policy.specs.Policy.Queue.{LaneState, new_lane, timeshare_
 ghost use Rattle.flat_policy.specs.Policy.Setup.{times_for};
 ghost use Rattle.flat_policy.specs.Policy.Windows.{at_lane, chosen_of, expired_window, may_pass, renewed_deadline, window_after};
 ghost use Rattle.root_deadlines.specs.Lanes.{filled_among};
-ghost use Rattle.root_deadlines.specs.Places.{place_of};
+ghost use Rattle.root_deadlines.specs.Indices.{index_of_lane};
 ghost use Rattle.windows.specs.OneLane.{lane_window};
 ghost use Rattle.windows.specs.Passing.{passing_with};
-ghost use Rattle.windows.specs.WindowStates.{filled_of, window_of, with_flag};
+ghost use Rattle.windows.specs.WindowStates.{cleared, expired_at, filled_at, filled_of, state_of_lane, with_choice, with_flag};
 
 use crate::window::Window;
 use bucket_tables::{Lane, each_lane};
 use flat_policy::lanes::{Kind, Starved, Warp};
 use flat_policy::setup::Times;
-use root_deadlines::{LaneSet, Lanes, place};
+use root_deadlines::{LaneSet, Lanes, lane_at_index, lane_index};
 use sched_base::Bucket;
 use std::marker::Model;
 
@@ -75,8 +75,8 @@ impl Windows {
         }
     }
 
-    /// The times of a lane's bucket.
-    fn times(&self, lane: Lane) -> Times
+    /// The times of a lane's bucket, in microseconds.
+    pub fn times(&self, lane: Lane) -> Times
         ensures { times_for self.now.times lane.bucket ≡ result }
     {
         self.times[lane.bucket.index() as usize]
@@ -85,9 +85,13 @@ impl Windows {
     /// The windows of a lane.
     fn window(&self, lane: Lane) -> Window
         requires { lane.bucket ≢ Bucket.Ui }
-        ensures { window_of self.now lane ≡ lane_window lane result }
+        ensures state { state_of_lane self.now lane ≡ lane_window lane result }
+        // a change that leaves the state of this lane leaves all
+        ensures stays { (change : LaneState → LaneState)
+            → change (state_of_lane self.now lane) ≡ state_of_lane self.now lane
+            → self.now ≡ record self.now { lanes = at_lane lane change self.now.lanes } }
     {
-        let marks = self.marks[place(lane)];
+        let marks = self.marks[lane_index(lane)];
         Window {
             deadline: self.lanes.deadline(lane),
             warp: marks.warp,
@@ -95,15 +99,15 @@ impl Windows {
         }
     }
 
-    /// Puts the changed windows of a lane in their place.
+    /// Writes the changed windows of a lane.
     fn put(&mut self, lane: Lane, window: Window)
         requires { lane.bucket ≢ Bucket.Ui }
         ensures { (change : LaneState → LaneState)
-            → change (window_of self.old lane) ≡ lane_window lane window
+            → change (state_of_lane self.old lane) ≡ lane_window lane window
             → self.new ≡ record self.old { lanes = at_lane lane change self.old.lanes } }
     {
         self.lanes.renew(lane, window.deadline);
-        self.marks[place(lane)] = Marks {
+        self.marks[lane_index(lane)] = Marks {
             warp: window.warp,
             starved: window.starved,
         };
@@ -115,10 +119,7 @@ impl Windows {
     pub fn fill(&mut self, lane: Lane, now: u64)
         requires lane { lane.bucket ≢ Bucket.Ui }
         requires moment { now < 2 ^ 40 }
-        ensures { self.new ≡ record self.old {
-          lanes = at_lane lane (renewed_deadline self.old.times now) self.old.lanes;
-          filled = with_flag lane true self.old.lanes self.old.filled;
-        } }
+        ensures { self.new ≡ filled_at now lane self.old }
     {
         let renewed = self.window(lane).renewed(self.times(lane), now);
         self.flag(lane);
@@ -132,16 +133,13 @@ impl Windows {
           filled = with_flag lane true self.old.lanes self.old.filled;
         } }
     {
-        let deadline = self.lanes.deadline(lane);
-        self.lanes.fill(lane, deadline);
+        self.lanes.mark_filled(lane);
     }
 
     /// A lane is empty. Its deadline and its windows stay, and so do the other lanes.
     pub fn clear(&mut self, lane: Lane)
         requires { lane.bucket ≢ Bucket.Ui }
-        ensures { self.new ≡ record self.old {
-          filled = with_flag lane false self.old.lanes self.old.filled;
-        } }
+        ensures { self.new ≡ cleared lane self.old }
     {
         self.lanes.clear(lane);
     }
@@ -150,14 +148,12 @@ impl Windows {
     /// starvation window that has lasted for QUANTUM ends, and the deadline becomes `now` and WCEL.
     pub fn expire(&mut self, now: u64)
         requires { now < 2 ^ 40 }
-        ensures { self.new ≡ record self.old {
-          lanes = map (expired_window self.old.times now) self.old.lanes;
-        } }
+        ensures { self.new ≡ expired_at now self.old }
     {
-        if self.running.is_empty() {
-            return;
+        let mut rest = self.running.copy();
+        while let Some(index) = rest.take_highest() {
+            self.expire_lane(lane_at_index(index), now);
         }
-        each_lane!(lane => self.expire_lane(lane, now));
     }
 
     /// The windows of one lane expire.
@@ -168,12 +164,8 @@ impl Windows {
           lanes = at_lane lane (expired_window self.old.times now) self.old.lanes;
         } }
     {
-        if !self.running.contains(lane) {
-            return;
-        }
-        let (window, times) = (self.window(lane), self.times(lane));
-        if window.is_ending(times, now) {
-            self.put(lane, window.expired(times, now));
+        if let Some(window) = self.window(lane).expired(self.times(lane), now) {
+            self.put(lane, window);
         }
     }
 
@@ -192,62 +184,25 @@ impl Windows {
     pub fn choose(&mut self, now: u64) -> (Lane, Kind)
         requires filled { filled_of self.old ≢ [] }
         requires moment { now < 2 ^ 40 }
+        ensures lane { result.0.bucket ≢ Bucket.Ui }
         ensures chosen { chosen_of self.old.times (filled_of self.old)
             ≡ Some (record { lane = result.0; kind = Some result.1 }) }
-        ensures changes { self.new ≡ record self.old {
-          lanes = at_lane result.0 (window_after self.old.times now result.1) self.old.lanes;
-        } }
+        ensures changes { self.new ≡ with_choice now result.0 (Some result.1) self.old }
     {
         let (lane, kind) = self.chosen();
-        match kind {
-            Kind::Pass => self.pass(lane, now),
-            Kind::Starve => self.starve(lane, now),
-            Kind::Natural => self.serve(lane, now),
-        }
+        self.serve(lane, kind, now);
         (lane, kind)
     }
 
-    /// A lane passed an earlier deadline: an unused warp begins, and nothing else changes.
-    fn pass(&mut self, lane: Lane, now: u64)
+    /// The windows of a lane that was chosen change with the kind of its choice.
+    fn serve(&mut self, lane: Lane, kind: Kind, now: u64)
         requires lane { lane.bucket ≢ Bucket.Ui }
         requires moment { now < 2 ^ 40 }
-        ensures { self.new ≡ record self.old {
-          lanes = at_lane lane (window_after self.old.times now Kind.Pass) self.old.lanes;
-        } }
+        ensures { self.new ≡ with_choice now lane (Some kind) self.old }
     {
-        let _ = &self.times;
-        let window = self.window(lane);
-        if window.is_unused() {
-            self.put(lane, window.chosen(Kind::Pass, self.times(lane), now));
+        if let Some(window) = self.window(lane).chosen(kind, self.times(lane), now) {
+            self.put(lane, window);
         }
-    }
-
-    /// A lane was served behind a higher one: its starvation window opens where it has none, and
-    /// nothing else changes.
-    fn starve(&mut self, lane: Lane, now: u64)
-        requires lane { lane.bucket ≢ Bucket.Ui }
-        requires moment { now < 2 ^ 40 }
-        ensures { self.new ≡ record self.old {
-          lanes = at_lane lane (window_after self.old.times now Kind.Starve) self.old.lanes;
-        } }
-    {
-        let _ = &self.times;
-        let window = self.window(lane);
-        if !window.is_starved() {
-            self.put(lane, window.chosen(Kind::Starve, self.times(lane), now));
-        }
-    }
-
-    /// A lane was served by its deadline: it gets a new one, and its windows end.
-    fn serve(&mut self, lane: Lane, now: u64)
-        requires lane { lane.bucket ≢ Bucket.Ui }
-        requires moment { now < 2 ^ 40 }
-        ensures { self.new ≡ record self.old {
-          lanes = at_lane lane (window_after self.old.times now Kind.Natural) self.old.lanes;
-        } }
-    {
-        let window = self.window(lane);
-        self.put(lane, window.chosen(Kind::Natural, self.times(lane), now));
     }
 
     /// The lane that is chosen by deadlines, and how.
@@ -275,6 +230,7 @@ impl Windows {
         ensures passing { result ≡ option_map (λ (l : LaneState). l.lane)
             (find (may_pass self.now.times) (filled_among set.now self.now.lanes)) }
     {
+        // opens what the fields mean for the proof, and costs nothing
         let _ = &self.times;
         let mut found = None;
         each_lane!(lane => found = self.with(found, lane, set));
@@ -286,8 +242,8 @@ impl Windows {
         requires lane { lane.bucket ≢ Bucket.Ui }
         requires found { ForSome found (λ l. l.bucket ≢ Bucket.Ui) }
         ensures lane { ForSome result (λ l. l.bucket ≢ Bucket.Ui) }
-        ensures found { result ≡ passing_with (slice_index_or set.now (place_of lane) false)
-            self.now.times found (window_of self.now lane) }
+        ensures found { result ≡ passing_with (slice_index_or set.now (index_of_lane lane) false)
+            self.now.times found (state_of_lane self.now lane) }
     {
         if found.is_some() || !set.contains(lane) {
             return found;

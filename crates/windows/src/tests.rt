@@ -52,18 +52,12 @@ const UT_BOUND: Lane = Lane {
 };
 
 /// The windows expire, and a lane is chosen.
-fn select(rt: &impl Abort, windows: &mut Windows, now: u64) -> (Lane, &'static str)
+fn select(rt: &impl Abort, windows: &mut Windows, now: u64) -> (Lane, Kind)
     requires { now < 2 ^ 40 }
 {
     windows.expire(now);
     assert!(rt; !windows.is_empty());
-    let (lane, kind) = windows.choose(now);
-    let name = match kind {
-        Kind::Pass => "pass",
-        Kind::Starve => "starve",
-        Kind::Natural => "natural",
-    };
-    (lane, name)
+    windows.choose(now)
 }
 
 #[test]
@@ -71,26 +65,26 @@ fn warp_and_starvation(rt: HostRuntime) {
     let mut windows = Windows::new(with_warp(8000));
     windows.fill(BG, 0);
     windows.fill(FG, 260_000);
-    assert_eq!(rt; select(&rt, &mut windows, 260_000), (FG, "pass"));
+    assert_eq!(rt; select(&rt, &mut windows, 260_000), (FG, Kind::Pass));
     windows.clear(FG);
     windows.fill(FG, 260_000);
-    assert_eq!(rt; select(&rt, &mut windows, 267_999), (FG, "pass"));
+    assert_eq!(rt; select(&rt, &mut windows, 267_999), (FG, Kind::Pass));
     windows.clear(FG);
     windows.fill(FG, 267_999);
 
     // the warp is spent, and the background has threads left after each of these
-    assert_eq!(rt; select(&rt, &mut windows, 268_000), (BG, "starve"));
-    assert_eq!(rt; select(&rt, &mut windows, 269_999), (BG, "starve"));
+    assert_eq!(rt; select(&rt, &mut windows, 268_000), (BG, Kind::Starve));
+    assert_eq!(rt; select(&rt, &mut windows, 269_999), (BG, Kind::Starve));
 
     // the starvation window ends, and the background is due at 520000
-    assert_eq!(rt; select(&rt, &mut windows, 270_000), (FG, "natural"));
+    assert_eq!(rt; select(&rt, &mut windows, 270_000), (FG, Kind::Natural));
     windows.clear(FG);
-    assert_eq!(rt; select(&rt, &mut windows, 270_000), (BG, "natural"));
+    assert_eq!(rt; select(&rt, &mut windows, 270_000), (BG, Kind::Natural));
 }
 
 #[test]
 fn no_warp_and_a_warp(rt: HostRuntime) {
-    for (foreground, expected) in [(0, (BG, "starve")), (8000, (FG, "pass"))] {
+    for (foreground, expected) in [(0, (BG, Kind::Starve)), (8000, (FG, Kind::Pass))] {
         let mut windows = Windows::new(with_warp(foreground));
         windows.fill(BG, 0);
         windows.fill(FG, 260_000);
@@ -104,7 +98,33 @@ fn bound_before_unbound(rt: HostRuntime) {
     assert!(rt; windows.is_empty());
     windows.fill(UT, 0);
     windows.fill(UT_BOUND, 0);
-    assert_eq!(rt; select(&rt, &mut windows, 0), (UT_BOUND, "natural"));
+    assert_eq!(rt; select(&rt, &mut windows, 0), (UT_BOUND, Kind::Natural));
     windows.clear(UT_BOUND);
-    assert_eq!(rt; select(&rt, &mut windows, 0), (UT, "natural"));
+    assert_eq!(rt; select(&rt, &mut windows, 0), (UT, Kind::Natural));
+}
+
+/// Times of another setup: 1000 for the background to be served within, and a starvation window of
+/// 5000, where those of version 1 are 250000 and 2000.
+#[test]
+fn other_times(rt: HostRuntime) {
+    let mut set = with_warp(0);
+    set[5] = Times {
+        wcel: 1000,
+        warp: 0,
+        quantum: 5000,
+    };
+    let mut windows = Windows::new(set);
+    assert_eq!(rt; windows.times(BG), set[5]);
+    windows.fill(BG, 0);
+    windows.fill(FG, 1001);
+
+    // the background is due at 1000, and stands in its window until 7000
+    assert_eq!(rt; select(&rt, &mut windows, 2000), (BG, Kind::Starve));
+    assert_eq!(rt; select(&rt, &mut windows, 6999), (BG, Kind::Starve));
+    assert_eq!(rt; select(&rt, &mut windows, 7000), (FG, Kind::Natural));
+    windows.clear(FG);
+
+    // and it is due at 8000 again
+    windows.fill(FG, 8001);
+    assert_eq!(rt; select(&rt, &mut windows, 8001), (BG, Kind::Starve));
 }

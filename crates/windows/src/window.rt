@@ -1,11 +1,11 @@
 //! The windows of one lane: how each ends, begins and changes.
 
-ghost use Rattle.std.specs.Prelude.{◌≡◌, ◌<◌, ◌^◌, List};
+ghost use Rattle.std.specs.Prelude.{◌≡◌, ◌<◌, ◌^◌, List, if◌then◌else◌};
 ghost use Rattle.bucket_tables.specs.declared.Lane.{Lane};
 ghost use Rattle.flat_policy.specs.declared.setup.Times.{Times};
 ghost use Rattle.flat_policy.specs.Policy.Setup.{times_for};
-ghost use Rattle.flat_policy.specs.Policy.Windows.{begun_warp, expired_warp, expired_window, may_pass, opened_window, renewed_deadline, window_after, window_over};
-ghost use Rattle.windows.specs.OneLane.{is_ending, is_running, is_unused, lane_window, starves};
+ghost use Rattle.flat_policy.specs.Policy.Windows.{begun_warp, expired_window, may_pass, opened_window, renewed_deadline, window_after, window_over};
+ghost use Rattle.windows.specs.OneLane.{IsChange, is_running, lane_window, warp_ends};
 
 use flat_policy::lanes::{Kind, Starved, Warp};
 use flat_policy::setup::Times;
@@ -18,13 +18,13 @@ pub struct Window {
     pub starved: Starved,
 }
 
-/// The warp at a moment: one whose end has come is spent.
-fn warp_at(warp: Warp, now: u64) -> Warp
-    ensures { result ≡ expired_warp now warp }
+/// Whether the end of a warp has come.
+fn has_ended(warp: Warp, now: u64) -> bool
+    ensures { result ≡ warp_ends now warp }
 {
     match warp {
-        Warp::Until(end) if end <= now => Warp::Spent,
-        _ => warp,
+        Warp::Until(end) => end <= now,
+        Warp::Unused | Warp::Spent => false,
     }
 }
 
@@ -35,27 +35,6 @@ fn is_over(starved: Starved, quantum: u32, now: u64) -> bool
     match starved {
         Starved::No => false,
         Starved::Since(start) => start <= now && u64::from(quantum) <= now - start,
-    }
-}
-
-/// The warp after a lane passed: an unused one begins.
-fn begun(warp: Warp, span: u32, now: u64) -> Warp
-    requires { now < 2 ^ 40 }
-    ensures { result ≡ begun_warp span now warp }
-{
-    match warp {
-        Warp::Unused => Warp::Until(now + u64::from(span)),
-        _ => warp,
-    }
-}
-
-/// The starvation window after a passed lane was served: it opens where there is none.
-fn opened(starved: Starved, now: u64) -> Starved
-    ensures { result ≡ opened_window now starved }
-{
-    match starved {
-        Starved::No => Starved::Since(now),
-        Starved::Since(_) => starved,
     }
 }
 
@@ -73,56 +52,48 @@ impl Window {
         }
     }
 
-    /// The lane after its windows expire.
-    pub fn expired(self, times: Times, now: u64) -> Window
+    /// The lane after its windows expire; `None` where they stay: the warp is spent where its end has
+    /// come, and the deadline is renewed where the starvation window has lasted for QUANTUM.
+    pub fn expired(self, times: Times, now: u64) -> Option<Window>
         requires { now < 2 ^ 40 }
         ensures { (at : Lane) (ts : List Times) → times_for ts at.bucket ≡ times
-            → lane_window at result ≡ expired_window ts now (lane_window at self) }
+            → IsChange at self result (expired_window ts now (lane_window at self)) }
     {
-        let warped = Window {
-            deadline: self.deadline,
-            warp: warp_at(self.warp, now),
-            starved: self.starved,
-        };
+        if has_ended(self.warp, now) {
+            let spent = Window {
+                deadline: self.deadline,
+                warp: Warp::Spent,
+                starved: self.starved,
+            };
+            return Some(spent.renewed_if_over(times, now));
+        }
         if is_over(self.starved, times.quantum, now) {
-            warped.renewed(times, now)
+            Some(self.renewed(times, now))
         } else {
-            warped
+            None
         }
     }
 
-    /// Whether its warp has not begun.
-    pub fn is_unused(self) -> bool
-        ensures { result ≡ is_unused self.warp }
+    /// The lane with a new deadline and no starvation window where that has lasted for QUANTUM, else as
+    /// it is.
+    fn renewed_if_over(self, times: Times, now: u64) -> Window
+        requires { now < 2 ^ 40 }
+        ensures { (at : Lane) (ts : List Times) → times_for ts at.bucket ≡ times
+            → lane_window at result ≡ (if window_over times.quantum now self.starved
+                then renewed_deadline ts now (lane_window at self) else lane_window at self) }
     {
-        matches!(self.warp, Warp::Unused)
-    }
-
-    /// Whether it stands in a starvation window.
-    pub fn is_starved(self) -> bool
-        ensures { result ≡ starves self.starved }
-    {
-        matches!(self.starved, Starved::Since(_))
+        if is_over(self.starved, times.quantum, now) {
+            self.renewed(times, now)
+        } else {
+            self
+        }
     }
 
     /// Whether its warp or its starvation window runs.
     pub fn is_running(self) -> bool
         ensures { result ≡ is_running self.warp self.starved }
     {
-        matches!(self.warp, Warp::Until(_)) || self.is_starved()
-    }
-
-    /// Whether the windows change when they expire: the end of the warp has come, or the starvation
-    /// window has lasted for QUANTUM.
-    pub fn is_ending(self, times: Times, now: u64) -> bool
-        ensures { (ts : List Times) (at : Lane) → times_for ts at.bucket ≡ times
-            → result ≡ is_ending ts now (lane_window at self) }
-    {
-        let warp_ends = match self.warp {
-            Warp::Until(end) => end <= now,
-            _ => false,
-        };
-        warp_ends || is_over(self.starved, times.quantum, now)
+        matches!(self.warp, Warp::Until(_)) || matches!(self.starved, Starved::Since(_))
     }
 
     /// Whether the lane may pass an earlier deadline: it has a warp, and that isn't spent.
@@ -133,29 +104,62 @@ impl Window {
         times.warp != 0 && !matches!(self.warp, Warp::Spent)
     }
 
-    /// The lane after it was chosen in this way.
-    pub fn chosen(self, kind: Kind, times: Times, now: u64) -> Window
+    /// The lane after it was chosen in this way; `None` where its windows stay. A warp that began
+    /// before, and a starvation window that is open, stay.
+    pub fn chosen(self, kind: Kind, times: Times, now: u64) -> Option<Window>
         requires { now < 2 ^ 40 }
         ensures { (at : Lane) (ts : List Times) → times_for ts at.bucket ≡ times
-            → lane_window at result ≡ window_after ts now kind (lane_window at self) }
+            → IsChange at self result (window_after ts now kind (lane_window at self)) }
     {
         match kind {
-            Kind::Pass => Window {
+            Kind::Pass => self.passed(times.warp, now),
+            Kind::Starve => self.served_behind(now),
+            Kind::Natural => Some(self.served(times, now)),
+        }
+    }
+
+    /// The lane passed an earlier deadline: an unused warp begins.
+    fn passed(self, span: u32, now: u64) -> Option<Window>
+        requires { now < 2 ^ 40 }
+        ensures { (at : Lane) → IsChange at self result
+            (record (lane_window at self) { warp = begun_warp span now self.warp }) }
+    {
+        match self.warp {
+            Warp::Unused => Some(Window {
                 deadline: self.deadline,
-                warp: begun(self.warp, times.warp, now),
+                warp: Warp::Until(now + u64::from(span)),
                 starved: self.starved,
-            },
-            Kind::Starve => Window {
+            }),
+            Warp::Until(_) | Warp::Spent => None,
+        }
+    }
+
+    /// The lane was served behind a higher one: a starvation window opens where there is none.
+    fn served_behind(self, now: u64) -> Option<Window>
+        ensures { (at : Lane) → IsChange at self result
+            (record (lane_window at self) { starved = opened_window now self.starved }) }
+    {
+        match self.starved {
+            Starved::No => Some(Window {
                 deadline: self.deadline,
                 warp: self.warp,
-                starved: opened(self.starved, now),
-            },
-            Kind::Natural => Window {
-                deadline: self.deadline,
-                warp: Warp::Unused,
-                starved: self.starved,
-            }
-            .renewed(times, now),
+                starved: Starved::Since(now),
+            }),
+            Starved::Since(_) => None,
         }
+    }
+
+    /// The lane was served by its deadline: it gets a new one, and its windows end.
+    fn served(self, times: Times, now: u64) -> Window
+        requires { now < 2 ^ 40 }
+        ensures { (at : Lane) (ts : List Times) → times_for ts at.bucket ≡ times
+            → lane_window at result ≡ window_after ts now Kind.Natural (lane_window at self) }
+    {
+        Window {
+            deadline: self.deadline,
+            warp: Warp::Unused,
+            starved: self.starved,
+        }
+        .renewed(times, now)
     }
 }

@@ -1,12 +1,13 @@
 -- Laws of the pick in a lane: it can be found in the lane alone, by unit, and then by entry.
 use Rattle.std.specs.List.{list_any}
-use Rattle.std.specs.Prelude.{List, Some, false, if◌then◌else◌, is_some, map, true, ℕ, ◌+◌, ◌≡◌}
+use Rattle.std.specs.Prelude.{Bool, List, Some, false, if◌then◌else◌, int_lt, is_some, map, nat_lt, true, ℕ, ◌&&◌, ◌+◌, ◌==◌, ◌||◌, ◌≡◌}
 use Rattle.bucket_tables.specs.declared.Lane.{Lane}
+use Rattle.flat_policy.specs.Laws.Choice.{OrdersMembers}
 use Rattle.flat_policy.specs.Policy.Moves.{pick_in}
 use Rattle.sched_base.specs.declared.Bucket.{Bucket}
 use Rattle.sched_base.specs.declared.Facts.{Facts}
-use Rattle.flat_policy.specs.Policy.Precedence.{bound_priority, clutch_precedes, clutch_priority, greatest, greatest_pri, precedes, precedes_in_lane}
-use Rattle.flat_policy.specs.Policy.Queue.{Clutch, Flat, Queued, clutch_entries, clutch_of, has_entries, in_clutch, lane, lane_entries, spans_of}
+use Rattle.flat_policy.specs.Policy.Precedence.{bound_priority, clutch_precedes, clutch_priority, greatest, greatest_pri, in_one_unit, precedes, precedes_in_lane, turn_before}
+use Rattle.flat_policy.specs.Policy.Queue.{Clutch, Flat, Queued, clutch_entries, clutch_of, has_entries, in_clutch, lane, lane_entries, spans_of, turn_of}
 use Rattle.flat_policy.specs.Policy.Usage.{bound_score, score}
 use Rattle.flat_policy.specs.Policy.Windows.{lane_priority}
 use Rattle.flat_policy.specs.Policy.Unpreceded.{unpreceded}
@@ -47,6 +48,7 @@ pub record LanePriorities (s : Flat) : Type 0 where
   pub bound : (b : Bucket) → has_entries s (lane b true) ≡ true → lane_priority s (lane b true) ≡ bound_priority s b
   pub unbound : (b : Bucket) (k : Clutch) → IsFirstClutch s (lane b false) k → lane_priority s (lane b false) ≡ clutch_priority s k
 
+-- the lanes of every well-formed queue have those priorities
 abbrev pub LanePrioritiesAreOfUnits : Type 0
 LanePrioritiesAreOfUnits = (groups : ℕ) (s : Flat) → WellFormed groups s → LanePriorities s
 
@@ -61,3 +63,26 @@ abbrev pub LanePriorityByEntries : Type 0
 LanePriorityByEntries =
     (s : Flat) (at : Lane)
     → lane_priority s at ≡ greatest (map (λ (e : Queued). e.pri + unit_score s e.facts) (lane_entries s at))
+
+-- the priority of an entry with the score of its unit
+abbrev pub scored : Flat → Queued → ℕ
+scored s e = e.pri + unit_score s e.facts
+
+-- at one such priority: in one unit the lower order number goes first, otherwise the unit of the lower turn
+abbrev pub goes_on_a_tie : Flat → Queued → Queued → Bool
+goes_on_a_tie s x y =
+    if in_one_unit x.facts y.facts then int_lt x.order y.order
+    else turn_before (turn_of s (clutch_of x.facts)) (turn_of s (clutch_of y.facts))
+
+-- one entry of a lane goes before another by these keys alone
+abbrev pub goes_by_keys : Flat → Queued → Queued → Bool
+goes_by_keys s x y = nat_lt (scored s y) (scored s x) || ((scored s x == scored s y) && goes_on_a_tie s x y)
+
+-- the keys strictly order the entries of a lane, and the first by them is the first of the lane
+pub record KeysFindFirst (s : Flat) (at : Lane) : Type 0 where
+  pub orders : OrdersMembers (goes_by_keys s) (lane_entries s at)
+  pub first : unpreceded (precedes_in_lane s) (lane_entries s at) ≡ unpreceded (goes_by_keys s) (lane_entries s at)
+
+-- so the first of a lane is found in one pass
+abbrev pub FirstGoesByKeys : Type 0
+FirstGoesByKeys = (groups : ℕ) (s : Flat) (at : Lane) → WellFormed groups s → KeysFindFirst s at

@@ -1,11 +1,10 @@
 -- What a cluster in code is: a queue, the slots in which its entries lie, and how many more entries it takes without memory.
-use Rattle.std.specs.Prelude.{All, AllPairs, Bool, Contains, List, None, Option, Some, [], if◌then◌else◌, is_some, length, max, ℕ, ◌&&◌, ◌++◌, ◌+◌, ◌-◌, ◌<◌, ◌==◌, ◌^◌, ◌∷◌, ◌≡◌, ◌≢◌, ◌≤◌}
+use Rattle.std.specs.Prelude.{AllPairs, Bool, Contains, List, None, Option, Some, [], if◌then◌else◌, length, max, ℕ, ◌&&◌, ◌++◌, ◌+◌, ◌-◌, ◌<◌, ◌==◌, ◌^◌, ◌∷◌, ◌≡◌, ◌≢◌, ◌≤◌}
 use Rattle.sched_base.specs.Limits.{most_threads}
-use Rattle.sched_base.specs.declared.Bucket.{Bucket}
 use Rattle.sched_base.specs.declared.Facts.{Facts}
 use Rattle.flat_policy.specs.Laws.Sound.{FlatFits}
 use Rattle.flat_policy.specs.Policy.BuiltSetups.{IsSetup}
-use Rattle.flat_policy.specs.Policy.ClusterSteps.{enter_event, flat_after_offer, offer_event, pull_event, refresh_event, touched}
+use Rattle.flat_policy.specs.Policy.ClusterSteps.{enter_event, flat_after_offer, touched}
 use Rattle.flat_policy.specs.Policy.Moves.{pick, removed, selected}
 use Rattle.flat_policy.specs.Policy.Offer.{offered_between}
 use Rattle.flat_policy.specs.Policy.Queue.{Flat, Queued, empty_flat}

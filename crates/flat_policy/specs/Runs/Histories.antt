@@ -21,13 +21,15 @@ use Rattle.flat_policy.specs.Policy.Unpreceded.{is_preceded, unpreceded}
 use Rattle.sched_base.specs.declared.Act.TheVariants as acts
 use Rattle.sched_base.specs.declared.Answer.TheVariants as answers
 
--- the moment, actor and act of a line
+-- the moment of a line
 abbrev pub moment_of : Line → ℕ
 moment_of l = l.entry.step.moment
 
+-- the actor of a line
 abbrev pub actor_of : Line → ℕ
 actor_of l = l.entry.step.actor
 
+-- the act of a line
 abbrev pub act_of : Line → Act
 act_of l = l.entry.step.act
 
@@ -83,10 +85,11 @@ event_by setup c s l (acts.Off at) = where_true (at == c) (power_event false (mo
 event_by setup c s l (acts.On at) = where_true (at == c) (power_event true (moment_of l) s)
 event_by setup c s l _ = None
 
+-- what a line comes to at a cluster
 abbrev pub cluster_event : SetupParts → ℕ → Flat → Line → Option Event
 cluster_event setup c s l = event_by setup c s l (act_of l)
 
--- a thread that enters is one of the setup
+-- a thread that enters fits the setup
 abbrev pub EntersFitting : SetupParts → Act → Option Facts → Type 0
 EntersFitting setup (acts.Enter at head) (Some t) = ThreadFits setup t
 EntersFitting setup _ _ = ⊤
@@ -128,6 +131,7 @@ pub record RunYard : Type 0 where
   pub made : List ℕ
   pub last : ℕ
 
+-- the yard of a run before any line
 abbrev pub empty_run_yard : RunYard
 empty_run_yard = record { blocked = []; ended = []; made = []; last = 0 }
 
@@ -203,6 +207,7 @@ yard_event_by setup y l acts.End = option_map (ending y (moment_of l)) l.entry.t
 yard_event_by setup y l acts.Blocked = counting y (moment_of l)
 yard_event_by setup y l _ = None
 
+-- what a line comes to in the yard of a run
 abbrev pub yard_event : SetupParts → RunYard → Line → Option YardEvent
 yard_event setup y l = yard_event_by setup y l (act_of l)
 

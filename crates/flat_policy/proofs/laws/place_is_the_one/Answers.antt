@@ -1,4 +1,4 @@
-use Rattle.flat_policy.proofs.Prefixes.{place_is}
+use Rattle.flat_policy.proofs.PlaceOf.{place_is}
 use Rattle.flat_policy.proofs.laws.place_is_the_one.Goals as goal
 
 pub returns : goal.returns

@@ -12,7 +12,7 @@ loop-c-preserved c =
     list_goes_on _ (map cluster_times_text c.args.s.now.times) _ _ _ _ _ c.loop-c.invariant
     (below_mapped cluster_times_text c.args.s.now.times c.loop-c.c c.clusters-c-end.result (c.clusters-c-end.ensures.count ∙ sym c.keeps_ranges.ensures.times_each) c.loop-c-test.true)
     c.in_ok-push_comma.ensures c.in_ok-push_cluster_times.ensures
-    (ap cluster_times_text c.times_by_bucket.ensures ∙ mapped_within cluster_times_text c.args.s.now.times c.loop-c.c [] c.clusters-c-end.result (c.clusters-c-end.ensures.count ∙ sym c.keeps_ranges.ensures.times_each) c.loop-c-test.true)
+    (ap cluster_times_text c.cluster_times.ensures.times ∙ mapped_within cluster_times_text c.args.s.now.times c.loop-c.c [] c.clusters-c-end.result (c.clusters-c-end.ensures.count ∙ sym c.keeps_ranges.ensures.times_each) c.loop-c-test.true)
 
 pub returns : goal.returns
 returns c =

@@ -1,7 +1,6 @@
-use Rattle.std.proofs.Common.{◌≡◌, List, [], ◌∷◌, subst, sym}
+use Rattle.std.proofs.Common.{◌≡◌, [], ◌∷◌, subst, sym}
 use Rattle.flat_policy.specs.Policy.BuiltSetups.{IsClusterTimes}
 use Rattle.flat_policy.specs.Policy.Setup.{cluster_times}
-use Rattle.flat_policy.specs.declared.setup.Times.{Times}
 use Rattle.flat_policy.proofs.SixTimes.{cluster_times_fit, six_times}
 use Rattle.flat_policy.proofs.setup.Setup.cluster_times.Goals as goal
 

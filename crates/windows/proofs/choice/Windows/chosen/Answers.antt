@@ -8,7 +8,7 @@ use Rattle.windows.specs.WindowStates.{filled_of}
 use Rattle.windows.proofs.Chosen.{choice_by, choice_over, chosen_from, lanes_are, none_waits, one_waits}
 use Rattle.windows.proofs.Ordered.{none_filled}
 use Rattle.windows.proofs.Passing.{higher_ten}
-use Rattle.windows.proofs.Places.{lanes_over}
+use Rattle.windows.proofs.AtIndex.{lanes_over}
 use Rattle.windows.proofs.choice.Windows.chosen.Goals as goal
 
 pub unwrap-first-requires : goal.unwrap-first-requires

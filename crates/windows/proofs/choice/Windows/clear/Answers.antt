@@ -1,7 +1,7 @@
 use Rattle.std.proofs.Common.{Bool, List, ap, false}
 use Rattle.windows.specs.Views.{windows_over}
 use Rattle.windows.specs.WindowStates.{WindowState}
-use Rattle.windows.proofs.FlagPlaces.{flag_at}
+use Rattle.windows.proofs.FlagIndices.{flag_at}
 use Rattle.windows.proofs.choice.Windows.clear.Goals as goal
 
 pub returns : goal.returns

@@ -3,7 +3,7 @@ use Rattle.root_deadlines.specs.Lanes.{filled_among}
 use Rattle.windows.specs.Views.{windows_over}
 use Rattle.windows.specs.WindowStates.{filled_of}
 use Rattle.windows.proofs.Ordered.{none_filled, none_of_lanes}
-use Rattle.windows.proofs.Places.{lanes_over}
+use Rattle.windows.proofs.AtIndex.{lanes_over}
 use Rattle.windows.proofs.choice.Windows.is_empty.Goals as goal
 
 pub returns : goal.returns
