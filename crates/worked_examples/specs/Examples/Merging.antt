@@ -13,6 +13,13 @@ got_nothing actor act = record {
   mark = None;
 }
 
+-- a line that asks the yard how many are blocked, of which there are none
+abbrev pub asks_yard : Line
+asks_yard = record {
+  entry = record { step = record { moment = 0; actor = 0; act = acts.Blocked }; answer = answers.Left 0; thread = None };
+  mark = None;
+}
+
 abbrev pub select_of_0 : Line
 select_of_0 = got_nothing 0 acts.Select
 
@@ -36,6 +43,6 @@ two_logs = (select_of_0 ∷ offer_to_0 ∷ []) ∷ (select_of_1 ∷ offer_to_1 �
 abbrev pub TwoAreMerged : Type 0
 TwoAreMerged = Interleaves two_journals [] two_logs (select_of_0 ∷ select_of_1 ∷ offer_to_0 ∷ offer_to_1 ∷ [])
 
--- with the journals the other way round no order fits
+-- the journals the other way round
 abbrev pub crossed_journals : List (List Line)
 crossed_journals = (offer_to_1 ∷ select_of_0 ∷ []) ∷ (offer_to_0 ∷ select_of_1 ∷ []) ∷ []

@@ -21,9 +21,13 @@ row_line moment actor act answer = record { step = record { moment = moment; act
 abbrev pub said : Entry → Said
 said e = record { step = e.step; answer = e.answer }
 
--- the machine, from the empty one, replies to the steps of the lines by these lines
+-- the machine, from the empty one, replies to some steps by these lines
+abbrev pub RepliesTo : SetupParts → List Step → List Said → Type 0
+RepliesTo setup steps lines = map said (replies setup (empty_machine setup) steps) ≡ lines
+
+-- it replies to the steps of the lines by these lines
 abbrev pub Replies : SetupParts → List Said → Type 0
-Replies setup lines = map said (replies setup (empty_machine setup) (map (λ (l : Said). l.step) lines)) ≡ lines
+Replies setup lines = RepliesTo setup (map (λ (l : Said). l.step) lines) lines
 
 -- the times of version 1, by bucket index
 abbrev pub times_of_version_one_all : List Times

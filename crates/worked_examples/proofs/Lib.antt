@@ -1,0 +1,7 @@
+pub mod Differ
+pub mod Same
+pub mod SameFlat
+pub mod Setups
+pub mod Starving
+pub mod Told
+pub mod Whole
