@@ -38,11 +38,11 @@ filter_order : (p : Queued → Bool) (es : List Queued) → OrdersMembers preced
 filter_order p es o = order_within precedes es (filter p es) (λ x c. (member_of_filter p es x c).0) o
 
 -- the first of a list that has members
-first_there : (es : List Queued) → OrdersMembers precedes es → (x : Queued) → Contains es x → (e : Queued) × (unpreceded precedes es ≡ Some e)
+pub first_there : (es : List Queued) → OrdersMembers precedes es → (x : Queued) → Contains es x → (e : Queued) × (unpreceded precedes es ≡ Some e)
 first_there es o x c =
     some_of (unpreceded precedes es) (there_under_strict precedes es (strict_from_order precedes es o) ∙ has_from_member es x c)
 
-in_lane_from : (at : Lane) (e : Queued) → e.facts.bucket ≡ at.bucket → is_some e.facts.bound ≡ at.bound → in_lane at e ≡ true
+pub in_lane_from : (at : Lane) (e : Queued) → e.facts.bucket ≡ at.bucket → is_some e.facts.bound ≡ at.bound → in_lane at e ≡ true
 in_lane_from at e b f = ap (λ (l : Lane). in_lane l e) (sym (ap₂ lane b f)) ∙ in_own_lane e
 
 -- the first of the first clutch bucket goes before all of the lane

@@ -33,7 +33,7 @@ turns_apart None u it iu differ h k = false≢true it
 turns_apart (Some a) None it iu differ h k = false≢true iu
 turns_apart (Some a) (Some b) it iu differ h k = differ (omega (arith, ltb-false a b h, ltb-false b a k))
 
-clutch_irreflexive : (s : Flat) (k : Clutch) → clutch_precedes s k k ≡ false
+pub clutch_irreflexive : (s : Flat) (k : Clutch) → clutch_precedes s k k ≡ false
 clutch_irreflexive s k = by_number_irreflexive (clutch_priority s k) (turn_before (turn_of s k) (turn_of s k)) (turn_irreflexive (turn_of s k))
 
 clutch_transitive : (s : Flat) (k l m : Clutch) → clutch_precedes s k l ≡ true → clutch_precedes s l m ≡ true → clutch_precedes s k m ≡ true

@@ -1,8 +1,8 @@
 -- Each step at a cluster keeps its queue well-formed.
-use Rattle.std.proofs.Common.{◌≡◌, ℕ, ◌≤◌, ◌==◌, Bool, true, false, not, ◌&&◌, cond, Contains, List, filter, length, Option, Some, None, option_and_then, refl, ap, ◌∙◌, arith}
+use Rattle.std.proofs.Common.{◌≡◌, ℕ, ◌≤◌, ◌==◌, Bool, true, not, ◌&&◌, cond, Contains, List, filter, length, Option, Some, None, option_and_then, refl, ap, ◌∙◌, arith}
 use Rattle.std.proofs.lemmas.Bool.{and_from, or_left, or_right}
 use Rattle.std.proofs.lemmas.List.Sums.{count_by-le-length, length-filter}
-use Rattle.std.proofs.lemmas.Option.{none-some, option_and_then_some}
+use Rattle.std.proofs.lemmas.Option.{option_and_then_some}
 use Rattle.flat_policy.specs.declared.setup.Times.{Times}
 use Rattle.flat_policy.specs.Policy.ClusterSteps.{flat_after_offer}
 use Rattle.flat_policy.specs.Policy.Moves.{goes_before, pick, pick_in, selected}
@@ -11,6 +11,7 @@ use Rattle.flat_policy.specs.Policy.Queue.{Flat, Queued}
 use Rattle.flat_policy.specs.Policy.Windows.{Choice, chosen, expired, expired_window}
 use Rattle.flat_policy.proofs.After.{removed_entries, selected_by_entries, without_some}
 use Rattle.flat_policy.proofs.Choice.{is_unpreceded}
+use Rattle.flat_policy.proofs.Happens.{cond_gives}
 use Rattle.flat_policy.proofs.KeptLanes.{expired_keeps, map_keeps_lanes}
 use Rattle.flat_policy.proofs.Leaves.{removed_fits}
 use Rattle.flat_policy.proofs.Members.{member_of_filter}
@@ -41,14 +42,10 @@ first_of_two : {X : Type 0} (a b : Option X) (x : X) (P : Type 0) → first_ther
 first_of_two (Some y) b x P h f g = f h
 first_of_two None b x P h f g = g h
 
-cond_then : {X : Type 0} (b : Bool) (o : Option X) (x : X) → cond b o None ≡ Some x → (b ≡ true) × (o ≡ Some x)
-cond_then true o x h = (refl, h)
-cond_then false o x h = absurd (none-some x h)
-
 pub offered_stands : (to : ℕ) (migrate : Bool) (mask : ℕ) (s : Flat) (e : Queued) → offered to migrate mask s ≡ Some e → Contains s.entries e × (may_take to migrate mask e.facts ≡ true)
 offered_stands to migrate mask s e h =
     first_of_two (cond migrate (offered_foreign to s) None) (offered_masked mask s) e (Contains s.entries e × (may_take to migrate mask e.facts ≡ true)) h
-    (λ f. let both = cond_then migrate (offered_foreign to s) e f in
+    (λ f. let both = cond_gives migrate (offered_foreign to s) e f in
     let among = (is_unpreceded foreign_before (filter (λ (q : Queued). prefers to q.facts) s.entries) e both.1).member in
     let m = member_of_filter (λ (q : Queued). prefers to q.facts) s.entries e among in
     (m.0, or_left (migrate && prefers to e.facts) (is_masked mask e.facts) (and_from migrate (prefers to e.facts) both.0 m.1)))
@@ -61,7 +58,7 @@ expired_parts groups ts s now p = record {
   entries_fit = p.entries_fit;
   turns_fit = p.turns_fit;
   turns_stand = p.turns_stand;
-  spans_long = p.spans_long;
+  spans_fit = p.spans_fit;
   ten = map_keeps_lanes (expired_window ts now) (expired_keeps ts now) s.lanes ∙ p.ten;
 }
 

@@ -41,10 +41,13 @@ with_lanes_fits groups s ls same w = record {
   arrivals_below = w.arrivals_below;
   order_numbers = w.order_numbers;
   groups_below = w.groups_below;
+  bases_within = w.bases_within;
+  priorities_within = w.priorities_within;
   turns_below = w.turns_below;
   turns_differ = w.turns_differ;
   turns_where_entries = w.turns_where_entries;
   spans_length = w.spans_length;
+  spans_small = w.spans_small;
   turns_length = w.turns_length;
   ten_lanes = same ∙ w.ten_lanes;
 }

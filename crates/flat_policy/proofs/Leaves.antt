@@ -43,7 +43,7 @@ without_but groups e now s p c = record {
   entries_fit = filter_fits groups s.next_arrival (λ (f : Queued). not (f.arrival == e.arrival)) s.entries p.entries_fit;
   turns_fit = p.turns_fit;
   turns_stand = λ k other gk. p.turns_stand k gk ∙ one_less_any s.entries p.entries_fit.rise e c k (not_in_other e k other);
-  spans_long = p.spans_long;
+  spans_fit = p.spans_fit;
   ten = p.ten;
 }
 
@@ -52,7 +52,7 @@ without_bound groups e now s p c bound = record {
   entries_fit = filter_fits groups s.next_arrival (λ (f : Queued). not (f.arrival == e.arrival)) s.entries p.entries_fit;
   turns_fit = p.turns_fit;
   turns_stand = λ k gk. p.turns_stand k gk ∙ one_less_any s.entries p.entries_fit.rise e c k (bound_in_none e k bound);
-  spans_long = p.spans_long;
+  spans_fit = p.spans_fit;
   ten = p.ten;
 }
 

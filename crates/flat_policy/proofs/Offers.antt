@@ -38,7 +38,7 @@ masked_free mask s x c =
     (and_parts (is_unbound x.facts) (mask_has mask x.facts.bucket) (member_of_filter (λ (e : Queued). is_masked mask e.facts) s.entries x c).1).0
 
 -- and so do those in the mask
-masked_order : (groups mask : ℕ) (s : Flat) → WellFormed groups s → OrdersMembers (masked_before s) (filter (λ (e : Queued). is_masked mask e.facts) s.entries)
+pub masked_order : (groups mask : ℕ) (s : Flat) → WellFormed groups s → OrdersMembers (masked_before s) (filter (λ (e : Queued). is_masked mask e.facts) s.entries)
 masked_order groups mask s w = record {
   irreflexive = λ x c. by_number_irreflexive (index x.facts.bucket) (precedes_in_lane s x x)
       ((unbound_strict s x.facts.bucket).irreflexive x (masked_free mask s x c, refl));

@@ -3,9 +3,10 @@ use Rattle.std.proofs.Common.{◌≡◌, ◌≢◌, ℕ, ◌+◌, ◌*◌, ◌<�
 use Rattle.std.specs.List.{list_any}
 use Rattle.std.proofs.lemmas.Bool.{cases_Bool, cond-true, cond-false}
 use Rattle.std.proofs.lemmas.List.Elements.{Contains-push_cases}
-use Rattle.flat_policy.specs.Policy.Queue.{Clutch, Flat, LaneState, Queued, clutch_place, in_clutch, timeshare_lanes}
+use Rattle.sched_base.specs.Limits.{most_base, most_threads}
+use Rattle.flat_policy.specs.Policy.Queue.{Clutch, Flat, LaneState, Queued, clutch_place, in_clutch, no_spans, timeshare_lanes}
 use Rattle.flat_policy.specs.Policy.Usage.{Spans}
-use Rattle.flat_policy.specs.Policy.WellFormed.{ArrivalsRise, EachQueued, HasOrderNumber, TurnBelow, TurnsDiffer, WellFormed, WellFormedWithin}
+use Rattle.flat_policy.specs.Policy.WellFormed.{ArrivalsRise, EachQueued, HasOrderNumber, SmallSpans, TurnBelow, TurnsDiffer, WellFormed, WellFormedWithin}
 use Rattle.flat_policy.proofs.Entries.{each_from_members, each_member}
 use Rattle.flat_policy.proofs.KeptLanes.{lane_names}
 use Rattle.flat_policy.proofs.Members.{member_of_filter}
@@ -16,6 +17,17 @@ pub record EntriesFit (groups next : ℕ) (es : List Queued) : Type 0 where
   pub below : EachQueued (λ (e : Queued). e.arrival < next) es
   pub orders : EachQueued HasOrderNumber es
   pub grouped : EachQueued (λ (e : Queued). e.facts.group < groups) es
+  pub based : EachQueued (λ (e : Queued). e.facts.base ≤ most_base) es
+  pub priced : EachQueued (λ (e : Queued). e.pri ≤ most_base) es
+
+-- what a clutch bucket used and for how long it was blocked, in a list of such
+abbrev pub spans_in : List Spans → Clutch → Spans
+spans_in spans k = get_or spans (clutch_place k) no_spans
+
+-- the numbers of use of a queue with so many groups
+pub record SpansFit (groups : ℕ) (spans : List Spans) : Type 0 where
+  pub long : length spans ≡ groups * 6
+  pub small : (k : Clutch) → SmallSpans (spans_in spans k)
 
 -- the turn of a clutch bucket in a list of turns
 abbrev pub turn_in : List (Option ℕ) → Clutch → Option ℕ
@@ -40,7 +52,7 @@ pub record Parts (groups : ℕ) (entries : List Queued) (spans : List Spans) (tu
   pub entries_fit : EntriesFit groups next_arrival entries
   pub turns_fit : TurnsFit groups next_turn turns
   pub turns_stand : TurnsStand groups turns entries
-  pub spans_long : length spans ≡ groups * 6
+  pub spans_fit : SpansFit groups spans
   pub ten : lane_names lanes ≡ timeshare_lanes
 
 abbrev pub PartsOf : ℕ → Flat → Type 0
@@ -48,15 +60,15 @@ PartsOf groups s = Parts groups s.entries s.spans s.turns s.lanes s.next_arrival
 
 pub parts_within : (limit groups : ℕ) (s : Flat) → WellFormedWithin limit groups s → PartsOf groups s
 parts_within limit groups s w = record {
-  entries_fit = record { rise = w.arrivals_rise; below = w.arrivals_below; orders = w.order_numbers; grouped = w.groups_below };
+  entries_fit = record { rise = w.arrivals_rise; below = w.arrivals_below; orders = w.order_numbers; grouped = w.groups_below; based = w.bases_within; priced = w.priorities_within };
   turns_fit = record { long = w.turns_length; below = w.turns_below; differ = w.turns_differ };
   turns_stand = w.turns_where_entries;
-  spans_long = w.spans_length;
+  spans_fit = record { long = w.spans_length; small = w.spans_small };
   ten = w.ten_lanes;
 }
 
 pub parts_of : (groups : ℕ) (s : Flat) → WellFormed groups s → PartsOf groups s
-parts_of groups s w = parts_within 4096 groups s w
+parts_of groups s w = parts_within most_threads groups s w
 
 pub well_formed_within : (limit groups : ℕ) (s : Flat) → length s.entries ≤ limit → PartsOf groups s → WellFormedWithin limit groups s
 well_formed_within limit groups s few p = record {
@@ -65,16 +77,19 @@ well_formed_within limit groups s few p = record {
   arrivals_below = p.entries_fit.below;
   order_numbers = p.entries_fit.orders;
   groups_below = p.entries_fit.grouped;
+  bases_within = p.entries_fit.based;
+  priorities_within = p.entries_fit.priced;
   turns_below = p.turns_fit.below;
   turns_differ = p.turns_fit.differ;
   turns_where_entries = p.turns_stand;
-  spans_length = p.spans_long;
+  spans_length = p.spans_fit.long;
+  spans_small = p.spans_fit.small;
   turns_length = p.turns_fit.long;
   ten_lanes = p.ten;
 }
 
-pub well_formed_from : (groups : ℕ) (s : Flat) → length s.entries ≤ 4096 → PartsOf groups s → WellFormed groups s
-well_formed_from groups s few p = well_formed_within 4096 groups s few p
+pub well_formed_from : (groups : ℕ) (s : Flat) → length s.entries ≤ most_threads → PartsOf groups s → WellFormed groups s
+well_formed_from groups s few p = well_formed_within most_threads groups s few p
 
 -- entries of a filter, of one more, and with other prices
 pub each_filter : (P : Queued → Type 0) (p : Queued → Bool) (es : List Queued) → EachQueued P es → EachQueued P (filter p es)
@@ -108,27 +123,43 @@ filter_fits groups next p es fit = record {
   below = each_filter (λ (e : Queued). e.arrival < next) p es fit.below;
   orders = each_filter HasOrderNumber p es fit.orders;
   grouped = each_filter (λ (e : Queued). e.facts.group < groups) p es fit.grouped;
+  based = each_filter (λ (e : Queued). e.facts.base ≤ most_base) p es fit.based;
+  priced = each_filter (λ (e : Queued). e.pri ≤ most_base) p es fit.priced;
 }
 
-pub push_fits : (groups next : ℕ) (es : List Queued) (e : Queued) → EntriesFit groups next es → e.arrival ≡ next → HasOrderNumber e → e.facts.group < groups → EntriesFit groups (next + 1) (es ++ e ∷ [])
-push_fits groups next es e fit now order group = record {
+-- an entry fits a queue with so many groups
+pub record EntryFits (groups : ℕ) (e : Queued) : Type 0 where
+  pub order : HasOrderNumber e
+  pub group : e.facts.group < groups
+  pub base : e.facts.base ≤ most_base
+  pub priority : e.pri ≤ most_base
+
+pub push_fits : (groups next : ℕ) (es : List Queued) (e : Queued) → EntriesFit groups next es → e.arrival ≡ next → EntryFits groups e → EntriesFit groups (next + 1) (es ++ e ∷ [])
+push_fits groups next es e fit now one = record {
   rise = rise_push es e fit.rise (each_weaker (λ (f : Queued). f.arrival < next) (λ (f : Queued). f.arrival < e.arrival) es (λ f h. omega (arith, h, now)) fit.below);
   below = each_push (λ (f : Queued). f.arrival < next + 1) es e
       (each_weaker (λ (f : Queued). f.arrival < next) (λ (f : Queued). f.arrival < next + 1) es (λ f h. omega (arith, h)) fit.below)
       (omega (arith, now));
-  orders = each_push HasOrderNumber es e fit.orders order;
-  grouped = each_push (λ (f : Queued). f.facts.group < groups) es e fit.grouped group;
+  orders = each_push HasOrderNumber es e fit.orders one.order;
+  grouped = each_push (λ (f : Queued). f.facts.group < groups) es e fit.grouped one.group;
+  based = each_push (λ (f : Queued). f.facts.base ≤ most_base) es e fit.based one.base;
+  priced = each_push (λ (f : Queued). f.pri ≤ most_base) es e fit.priced one.priority;
 }
 
--- a function of entries that leaves when they arrived, their order and their group
+-- a function of entries that leaves when they arrived, their order, group and base, and no priority above the highest
 pub record KeepsPlace (f : Queued → Queued) : Type 0 where
   pub arrival : (e : Queued) → (f e).arrival ≡ e.arrival
   pub order : (e : Queued) → (f e).order ≡ e.order
   pub group : (e : Queued) → (f e).facts.group ≡ e.facts.group
+  pub base : (e : Queued) → (f e).facts.base ≡ e.facts.base
+  pub priority : (e : Queued) → e.facts.base ≤ most_base → e.pri ≤ most_base → (f e).pri ≤ most_base
 
 pub each_map : (P Q : Queued → Type 0) (f : Queued → Queued) → ((e : Queued) → P e → Q (f e)) → (es : List Queued) → EachQueued P es → EachQueued Q (map f es)
 each_map P Q f h [] each = tt
 each_map P Q f h (e ∷ es) each = (h e each.0, each_map P Q f h es each.1)
+
+each_both : (P Q : Queued → Type 0) (es : List Queued) → EachQueued P es → EachQueued Q es → EachQueued (λ (e : Queued). P e × Q e) es
+each_both P Q es p q = each_from_members (λ (e : Queued). P e × Q e) es (λ e c. (each_member P es p e c, each_member Q es q e c))
 
 rise_map : (f : Queued → Queued) → KeepsPlace f → (es : List Queued) → ArrivalsRise es → ArrivalsRise (map f es)
 rise_map f k [] rise = tt
@@ -147,4 +178,7 @@ map_fits groups next f k es fit = record {
   below = each_map (λ (e : Queued). e.arrival < next) (λ (e : Queued). e.arrival < next) f (λ e h. omega (arith, h, k.arrival e)) es fit.below;
   orders = each_map HasOrderNumber HasOrderNumber f (order_kept f k) es fit.orders;
   grouped = each_map (λ (e : Queued). e.facts.group < groups) (λ (e : Queued). e.facts.group < groups) f (λ e h. omega (arith, h, k.group e)) es fit.grouped;
+  based = each_map (λ (e : Queued). e.facts.base ≤ most_base) (λ (e : Queued). e.facts.base ≤ most_base) f (λ e h. omega (arith, h, k.base e)) es fit.based;
+  priced = each_map (λ (e : Queued). (e.facts.base ≤ most_base) × (e.pri ≤ most_base)) (λ (e : Queued). e.pri ≤ most_base) f (λ e h. k.priority e h.0 h.1) es
+      (each_both (λ (e : Queued). e.facts.base ≤ most_base) (λ (e : Queued). e.pri ≤ most_base) es fit.based fit.priced);
 }

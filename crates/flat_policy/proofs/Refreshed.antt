@@ -13,7 +13,7 @@ use Rattle.flat_policy.proofs.Parts.{PartsOf, map_fits}
 use Rattle.flat_policy.proofs.Refreshes.{clutch_grouped, fold_keeps, repriced_facts, repriced_keeps}
 use Rattle.flat_policy.proofs.Wholes.{but_one, whole_with_next}
 
-repriced_clutch : (s : Flat) (now : ℕ) (k : Clutch) (e : Queued) → in_clutch k (repriced s now e) ≡ in_clutch k e
+pub repriced_clutch : (s : Flat) (now : ℕ) (k : Clutch) (e : Queued) → in_clutch k (repriced s now e) ≡ in_clutch k e
 repriced_clutch s now k e =
     repriced_facts s now e (λ f. in_clutch k f ≡ in_clutch k e) refl
     (λ t pri h. ap (λ (u : Facts). in_clutch k (record e { facts = u; pri = pri })) h)
@@ -27,7 +27,7 @@ prices_fit groups s now p = record {
   entries_fit = map_fits groups s.next_arrival (repriced s now) (repriced_keeps s now) s.entries p.entries_fit;
   turns_fit = p.turns_fit;
   turns_stand = λ k gk. p.turns_stand k gk ∙ sym (any_of_map (in_clutch k) (repriced s now) s.entries (repriced_clutch s now k));
-  spans_long = p.spans_long;
+  spans_fit = p.spans_fit;
   ten = p.ten;
 }
 

@@ -1,7 +1,8 @@
 -- Selecting from a queue and refreshing it keep it well-formed.
-use Rattle.std.proofs.Common.{◌≡◌, ℕ, suc, zero, ◌+◌, ◌<◌, Contains, List, [], ◌∷◌, fold, flat_map, length, Option, Some, None, refl, ap, ◌∙◌, inl, inr, arith}
+use Rattle.std.proofs.Common.{◌≡◌, ℕ, suc, zero, ◌+◌, ◌<◌, ◌≤◌, Contains, List, [], ◌∷◌, fold, flat_map, length, Option, Some, None, refl, ap, ◌∙◌, inl, inr, arith}
 use Rattle.std.proofs.lemmas.Bool.{cond_both}
 use Rattle.std.proofs.lemmas.List.Elements.{Contains-append_cases}
+use Rattle.sched_base.specs.Limits.{most_base}
 use Rattle.sched_base.specs.declared.Facts.{Facts}
 use Rattle.bucket_tables.specs.declared.Lane.{Lane}
 use Rattle.flat_policy.specs.declared.lanes.Kind.{Kind}
@@ -17,6 +18,7 @@ use Rattle.flat_policy.proofs.KeptLanes.{at_lane_keeps, window_keeps}
 use Rattle.flat_policy.proofs.Leaves.{removed_by_selection_fits}
 use Rattle.flat_policy.proofs.Members.{contains_cases, contains_here, contains_later, contains_none}
 use Rattle.flat_policy.proofs.Parts.{KeepsPlace, PartsOf}
+use Rattle.flat_policy.proofs.Usage.{priority_within}
 
 -- the windows of a choice change no more than the lanes' times
 windows_fit : (groups : ℕ) (ts : List Times) (now : ℕ) (kind : Option Kind) (at : Lane) (s : Flat) → PartsOf groups s → PartsOf groups (windows_after ts now kind at s)
@@ -25,7 +27,7 @@ windows_fit groups ts now (Some kind) at s p = record {
   entries_fit = p.entries_fit;
   turns_fit = p.turns_fit;
   turns_stand = p.turns_stand;
-  spans_long = p.spans_long;
+  spans_fit = p.spans_fit;
   ten = at_lane_keeps at (window_after ts now kind) (window_keeps ts now kind) s.lanes ∙ p.ten;
 }
 
@@ -73,9 +75,18 @@ repriced_facts s now e P same other =
     cond_both (is_ui e.facts.bucket) e (record e { facts = t; pri = priority t.base t.bucket t.usage (length (unit_entries s e.facts)) }) P
     (λ h. same) (λ h. other t (priority t.base t.bucket t.usage (length (unit_entries s e.facts))) refl)
 
+repriced_price : (s : Flat) (now : ℕ) (e : Queued) → e.facts.base ≤ most_base → e.pri ≤ most_base → (repriced s now e).pri ≤ most_base
+repriced_price s now e based priced =
+    let t : Facts = record e.facts { usage = decay e.facts.usage e.facts.seen now; seen = now } in
+    let n : ℕ = length (unit_entries s e.facts) in
+    cond_both (is_ui e.facts.bucket) e (record e { facts = t; pri = priority t.base t.bucket t.usage n }) (λ (f : Queued). f.pri ≤ most_base)
+    (λ h. priced) (λ h. omega (arith, based, priority_within t.base t.bucket t.usage n))
+
 pub repriced_keeps : (s : Flat) (now : ℕ) → KeepsPlace (repriced s now)
 repriced_keeps s now = record {
   arrival = λ e. repriced_facts s now e (λ f. f.arrival ≡ e.arrival) refl (λ t pri h. refl);
   order = λ e. repriced_facts s now e (λ f. f.order ≡ e.order) refl (λ t pri h. refl);
   group = λ e. repriced_facts s now e (λ f. f.facts.group ≡ e.facts.group) refl (λ t pri h. ap (λ (u : Facts). u.group) h);
+  base = λ e. repriced_facts s now e (λ f. f.facts.base ≡ e.facts.base) refl (λ t pri h. ap (λ (u : Facts). u.base) h);
+  priority = repriced_price s now;
 }

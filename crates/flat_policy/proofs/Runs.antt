@@ -25,9 +25,9 @@ empty_sound setup = record {
   flats_length = length-replicate (cluster_count setup) (empty_flat (group_count setup));
   hands_length = length-replicate (actor_count setup) (empty_hand setup 0);
   flats = λ c h. subst (FlatFits setup) (sym (get_or-replicate (cluster_count setup) c (empty_flat (group_count setup)) (empty_flat 0) h))
-      (flat_fits setup (empty_flat (group_count setup)) (empty_parts (group_count setup)) tt);
-  hands = λ a h. subst (HandFits setup) (sym (get_or-replicate (actor_count setup) a (empty_hand setup 0) no_hand h)) (empty_hand_fits setup 0);
-  yard = λ w c. absurd (contains_none w c);
+      (flat_fits setup (empty_flat (group_count setup)) (empty_parts (group_count setup)) tt (omega arith));
+  hands = λ a h. subst (HandFits setup) (sym (get_or-replicate (actor_count setup) a (empty_hand setup 0) no_hand h)) (empty_hand_fits setup 0 (omega arith));
+  yard = record { blocked = λ w c. absurd (contains_none w c); last = omega arith };
 }
 
 empty_placed : (setup : SetupParts) (p : ℕ → Bool) → placed p (empty_machine setup) ≡ 0

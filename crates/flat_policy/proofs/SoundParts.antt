@@ -5,6 +5,7 @@ use Rattle.std.proofs.lemmas.Bool.{cases_Bool, cases_eq, cond-false, cond-true, 
 use Rattle.std.proofs.lemmas.List.{get_or-set_other, get_or-set_same, length-replicate, length-set}
 use Rattle.std.proofs.lemmas.List.Sums.{sum_by-cons}
 use Rattle.std.proofs.lemmas.Option.{none-some}
+use Rattle.sched_base.specs.Limits.{moment_limit}
 use Rattle.flat_policy.specs.Policy.Threads.{ThreadFits}
 use Rattle.flat_policy.specs.Laws.Sound.{FlatFits, HandFits, Sound, YardFits}
 use Rattle.flat_policy.specs.Policy.Machine.{MachineState, Hand, Yard, empty_hand, flat_at, hand_at, no_hand, with_flat, with_hand, with_yard}
@@ -105,12 +106,12 @@ pub home_within : (setup : SetupParts) (actor : ℕ) → actor < actor_count set
 home_within setup actor h = home_below setup.clusters actor h
 
 -- a queue fits by its parts, and gives them
-pub flat_fits : (setup : SetupParts) (s : Flat) → PartsOf (group_count setup) s → EachQueued (λ (e : Queued). ThreadFits setup e.facts) s.entries → FlatFits setup s
-flat_fits setup s p each = record { formed = well_formed_within (length s.entries) (group_count setup) s (omega arith) p; threads = each }
+pub flat_fits : (setup : SetupParts) (s : Flat) → PartsOf (group_count setup) s → EachQueued (λ (e : Queued). ThreadFits setup e.facts) s.entries → s.last < moment_limit → FlatFits setup s
+flat_fits setup s p each soon = record { formed = well_formed_within (length s.entries) (group_count setup) s (omega arith) p; threads = each; last = soon }
 
 pub flat_parts : (setup : SetupParts) (s : Flat) → FlatFits setup s → PartsOf (group_count setup) s
 flat_parts setup s f = parts_within (length s.entries) (group_count setup) s f.formed
 
 -- a hand without a thread fits
-pub empty_hand_fits : (setup : SetupParts) (now : ℕ) → HandFits setup (empty_hand setup now)
-empty_hand_fits setup now = record { thread = λ t h. absurd (none-some t h); looks = length-replicate (cluster_count setup) None }
+pub empty_hand_fits : (setup : SetupParts) (now : ℕ) → now < moment_limit → HandFits setup (empty_hand setup now)
+empty_hand_fits setup now soon = record { thread = λ t h. absurd (none-some t h); looks = length-replicate (cluster_count setup) None; last = soon }

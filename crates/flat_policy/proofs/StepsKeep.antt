@@ -2,16 +2,18 @@
 use Rattle.std.proofs.Common.{◌≡◌, ℕ, ◌*◌, ◌<◌, Bool, Contains, length, replicate, get_or, Option, Some, None, is_some, refl, sym, ap, subst, inl, inr, arith}
 use Rattle.std.proofs.lemmas.Bool.{cases_lt, cond_both}
 use Rattle.std.proofs.lemmas.List.{get_or-replicate, get_or_past, length-map, length-replicate, length_push}
+use Rattle.sched_base.specs.Limits.{most_threads}
 use Rattle.sched_base.specs.declared.Facts.{Facts}
 use Rattle.flat_policy.specs.Policy.ClusterSteps.{Event, facts_of, flat_after_offer, got, select_event, touched}
 use Rattle.sched_base.specs.declared.Answer.TheVariants as answers
 use Rattle.flat_policy.specs.Laws.Kept.{StaysWellFormed}
 use Rattle.flat_policy.specs.Policy.Moves.{entered, new_entry, pick, removed, selected, settled_thread}
 use Rattle.flat_policy.specs.Policy.Offer.{mask_between, offered_between}
-use Rattle.flat_policy.specs.Policy.Queue.{Clutch, Flat, Queued, clutch_place, empty_flat}
+use Rattle.flat_policy.specs.Policy.Queue.{Clutch, Flat, Queued, clutch_place, empty_flat, no_spans}
 use Rattle.flat_policy.specs.Policy.Refresh.{refreshed, repriced}
 use Rattle.flat_policy.specs.Policy.Setup.{SetupParts, cluster_times, group_count, migrates}
-use Rattle.flat_policy.specs.Policy.WellFormed.{TurnBelow, TurnsDiffer, WellFormed}
+use Rattle.flat_policy.specs.Policy.Threads.{ThreadFits}
+use Rattle.flat_policy.specs.Policy.WellFormed.{SmallSpans, TurnBelow, TurnsDiffer, WellFormed}
 use Rattle.flat_policy.proofs.After.{entered_entries, removed_entries}
 use Rattle.flat_policy.proofs.Enters.{entered_fits}
 use Rattle.flat_policy.proofs.Kept.{after_offer_entries, after_offer_fits, fewer, offered_stands, selected_entries, selected_fits}
@@ -32,25 +34,28 @@ no_turn groups k = replicated (groups * 6) (clutch_place k) None
 
 pub empty_parts : (groups : ℕ) → PartsOf groups (empty_flat groups)
 empty_parts groups = record {
-  entries_fit = record { rise = tt; below = tt; orders = tt; grouped = tt };
+  entries_fit = record { rise = tt; below = tt; orders = tt; grouped = tt; based = tt; priced = tt };
   turns_fit = record {
     long = length-replicate (groups * 6) None;
     below = λ k. subst (TurnBelow 0) (sym (no_turn groups k)) tt;
     differ = λ k l kl gk gl. subst (λ t. TurnsDiffer t (turn_in (replicate (groups * 6) None) l)) (sym (no_turn groups k)) tt;
   };
   turns_stand = λ k gk. ap is_some (no_turn groups k);
-  spans_long = length-replicate (groups * 6) (record { used = 0; blocked = 0 });
+  spans_fit = record {
+    long = length-replicate (groups * 6) no_spans;
+    small = λ k. subst SmallSpans (sym (replicated (groups * 6) (clutch_place k) no_spans)) (record { used = omega arith; blocked = omega arith });
+  };
   ten = refl;
 }
 
 pub empty_fits : (groups : ℕ) → WellFormed groups (empty_flat groups)
 empty_fits groups = well_formed_from groups (empty_flat groups) (omega arith) (empty_parts groups)
 
-enter_keeps : (setup : SetupParts) (s : Flat) → WellFormed (group_count setup) s → (c : ℕ) (t : Facts) (head : Bool) (now : ℕ) → length s.entries < 4096 → t.group < group_count setup → WellFormed (group_count setup) (entered (cluster_times setup c) t head now s)
-enter_keeps setup s w c t head now room in' =
+enter_keeps : (setup : SetupParts) (s : Flat) → WellFormed (group_count setup) s → (c : ℕ) (t : Facts) (head : Bool) (now : ℕ) → length s.entries < most_threads → ThreadFits setup t → WellFormed (group_count setup) (entered (cluster_times setup c) t head now s)
+enter_keeps setup s w c t head now room fit =
     well_formed_from (group_count setup) (entered (cluster_times setup c) t head now s)
     (omega (arith, room, ap length (entered_entries (cluster_times setup c) t head now s), length_push s.entries (new_entry s (settled_thread now t) head)))
-    (entered_fits (group_count setup) (cluster_times setup c) t head now s (parts_of (group_count setup) s w) in')
+    (entered_fits setup (cluster_times setup c) t head now s (parts_of (group_count setup) s w) fit)
 
 -- a queue with another moment, on or off, is as well-formed
 touch_keeps : (groups : ℕ) (s : Flat) (now : ℕ) (on : Bool) → WellFormed groups s → WellFormed groups (record s { on = on; last = now })

@@ -1,11 +1,11 @@
 -- A queue that lacks the right turn of one clutch bucket, and how it is made whole.
-use Rattle.std.proofs.Common.{◌≡◌, ℕ, ◌*◌, ◌<◌, Bool, true, false, ◌||◌, List, [], ◌∷◌, filter, length, Some, None, is_some, refl, sym, ap, ◌∙◌, inl, inr}
+use Rattle.std.proofs.Common.{◌≡◌, ℕ, ◌<◌, Bool, true, false, ◌||◌, List, [], ◌∷◌, filter, Some, None, is_some, refl, sym, ap, ◌∙◌, inl, inr}
 use Rattle.std.specs.List.{list_any}
 use Rattle.std.proofs.lemmas.Bool.{cases_Bool, cond-true, cond-false, or_left}
 use Rattle.flat_policy.specs.Policy.Moves.{with_next_turn, without_turn}
 use Rattle.flat_policy.specs.Policy.Queue.{Clutch, Flat, in_clutch, timeshare_lanes}
 use Rattle.flat_policy.proofs.KeptLanes.{lane_names}
-use Rattle.flat_policy.proofs.Parts.{EntriesFit, PartsOf, TurnsFit, TurnsStandBut, turn_in}
+use Rattle.flat_policy.proofs.Parts.{EntriesFit, PartsOf, SpansFit, TurnsFit, TurnsStandBut, turn_in}
 use Rattle.flat_policy.proofs.Turns.{next_turn_fits, no_turn_fits, right_stands, set_stands}
 
 -- the parts of a queue, but for the turn of one clutch bucket
@@ -14,7 +14,7 @@ pub record PartsBut (groups : ℕ) (but : Clutch) (s : Flat) : Type 0 where
   pub entries_fit : EntriesFit groups s.next_arrival s.entries
   pub turns_fit : TurnsFit groups s.next_turn s.turns
   pub turns_stand : TurnsStandBut groups but s.turns s.entries
-  pub spans_long : length s.spans ≡ groups * 6
+  pub spans_fit : SpansFit groups s.spans
   pub ten : lane_names s.lanes ≡ timeshare_lanes
 
 pub whole_with_next : (groups : ℕ) (k : Clutch) (s : Flat) → PartsBut groups k s → list_any (in_clutch k) s.entries ≡ true → PartsOf groups (with_next_turn k s)
@@ -22,7 +22,7 @@ whole_with_next groups k s p h = record {
   entries_fit = p.entries_fit;
   turns_fit = next_turn_fits groups s.next_turn s.turns k p.turns_fit p.group;
   turns_stand = set_stands groups s.turns k (Some s.next_turn) s.entries p.turns_fit.long p.group (sym h) p.turns_stand;
-  spans_long = p.spans_long;
+  spans_fit = p.spans_fit;
   ten = p.ten;
 }
 
@@ -31,7 +31,7 @@ whole_without groups k s p h = record {
   entries_fit = p.entries_fit;
   turns_fit = no_turn_fits groups s.next_turn s.turns k p.turns_fit p.group;
   turns_stand = set_stands groups s.turns k None s.entries p.turns_fit.long p.group (sym h) p.turns_stand;
-  spans_long = p.spans_long;
+  spans_fit = p.spans_fit;
   ten = p.ten;
 }
 
@@ -40,7 +40,7 @@ whole_as_is groups k s p h = record {
   entries_fit = p.entries_fit;
   turns_fit = p.turns_fit;
   turns_stand = right_stands groups s.turns k s.entries h p.turns_stand;
-  spans_long = p.spans_long;
+  spans_fit = p.spans_fit;
   ten = p.ten;
 }
 
@@ -50,7 +50,7 @@ but_one groups k s in' p = record {
   entries_fit = p.entries_fit;
   turns_fit = p.turns_fit;
   turns_stand = λ l other gl. p.turns_stand l gl;
-  spans_long = p.spans_long;
+  spans_fit = p.spans_fit;
   ten = p.ten;
 }
 

@@ -1,7 +1,7 @@
 //! Journals: lists of lines.
 
-ghost use Rattle.std.specs.Prelude.{◌≡◌, ◌≤◌, ◌<◌, ◌+◌, ◌==◌, ◌^◌, length, slice_get, IsOk, IsErr, OnOk, OnErr};
-ghost use Rattle.flat_policy.specs.Runs.Journals.{IsJournal, empty_journal, pushed};
+ghost use Rattle.std.specs.Prelude.{◌≡◌, ◌≤◌, ◌<◌, ◌+◌, ◌==◌, length, slice_get, IsOk, IsErr, OnOk, OnErr};
+ghost use Rattle.flat_policy.specs.Runs.Journals.{IsJournal, empty_journal, journal_limit, pushed};
 
 use sched_base::Entry;
 use std::alloc::{AllocError, Global};
@@ -15,7 +15,7 @@ pub struct Line {
     pub mark: Option<u32>,
 }
 
-/// The least number that length and free room together never reach.
+/// The first number that length and free room together never reach.
 const LIMIT: usize = 1 << 40;
 
 /// A list of lines that grows at its end. Contracts see its lines and its free room: how many
@@ -26,14 +26,14 @@ pub struct Journal {
 }
 
 impl Model for Journal {
-    ghost use Rattle.std.specs.Prelude.{◌-◌, ◌<◌, ◌^◌, vec_capacity, vec_len};
-    ghost use Rattle.flat_policy.specs.Runs.Journals.{JournalParts};
+    ghost use Rattle.std.specs.Prelude.{◌-◌, ◌<◌, vec_capacity, vec_len};
+    ghost use Rattle.flat_policy.specs.Runs.Journals.{JournalParts, journal_limit};
 
     ghost Value = { JournalParts };
 
     ghost view = { λ j. record { lines = j.lines.items; free = vec_capacity j.lines - vec_len j.lines } };
 
-    ghost invariant = { λ j. vec_capacity j.lines < 2 ^ 40 };
+    ghost invariant = { λ j. vec_capacity j.lines < journal_limit };
 }
 
 impl Journal {
@@ -53,7 +53,7 @@ impl Journal {
         ensures room { OnOk result (n ≤ self.new.free) }
         ensures kept { self.old.free ≤ self.new.free }
         ensures free { n ≤ self.old.free → IsOk result }
-        ensures past { 2 ^ 40 ≤ length self.old.lines + n → IsErr result }
+        ensures past { journal_limit ≤ length self.old.lines + n → IsErr result }
         ensures err { OnErr result (self.new ≡ self.old) }
     {
         let len = self.lines.len();
@@ -63,9 +63,13 @@ impl Journal {
         if n >= (LIMIT - len) as u64 {
             return Err(AllocError);
         }
-        // Growing by the length at least keeps the copying of many small reserves linear.
-        let room = (n as usize).max(len).min(LIMIT - 1 - len);
-        self.lines.reserve_exact(room)
+        // Doubling keeps the copying of many small reserves linear.
+        let least = n as usize;
+        let doubled = least.max(len).min(LIMIT - 1 - len);
+        match self.lines.reserve_exact(doubled) {
+            Ok(()) => Ok(()),
+            Err(_) => self.lines.reserve_exact(least),
+        }
     }
 
     /// Adds a line at the end, in one place of the free room.
@@ -131,6 +135,21 @@ mod tests {
         assert_eq!(rt; journal.len(), 2);
         assert_eq!(rt; journal.line(0), line(5, Some(70)));
         assert_eq!(rt; journal.line(1), line(9, None));
+        Ok(())
+    }
+
+    #[test]
+    fn grows_as_it_is_filled(rt: HostRuntime) -> Result<(), Fail> {
+        let mut journal = Journal::new(rt.alloc());
+        for moment in 0..5000 {
+            journal.reserve(1)?;
+            journal.push(line(moment, Some(moment as u32)));
+        }
+        journal.reserve(1 << 20)?;
+        assert_eq!(rt; journal.len(), 5000);
+        for i in 0..journal.len() {
+            assert_eq!(rt; journal.line(i), line(i, Some(i as u32)));
+        }
         Ok(())
     }
 

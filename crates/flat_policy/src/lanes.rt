@@ -1,7 +1,7 @@
 //! The windows of a lane, and how a lane comes to be chosen.
 
 /// How far the warp of a lane is used: the time for which it may pass an earlier deadline.
-#[derive(Clone, Copy, Drop)]
+#[derive(Clone, Copy, Debug, Drop, PartialEq, Eq)]
 pub enum Warp {
     /// Not begun.
     Unused,
@@ -12,7 +12,7 @@ pub enum Warp {
 }
 
 /// Whether a lane stands in a starvation window: the time for which a passed lane is served.
-#[derive(Clone, Copy, Drop)]
+#[derive(Clone, Copy, Debug, Drop, PartialEq, Eq)]
 pub enum Starved {
     /// It does not.
     No,
@@ -21,7 +21,7 @@ pub enum Starved {
 }
 
 /// How a timeshare lane came to be chosen.
-#[derive(Clone, Copy, Drop)]
+#[derive(Clone, Copy, Debug, Drop, PartialEq, Eq)]
 pub enum Kind {
     /// A higher bucket passed an earlier deadline, by its warp.
     Pass,

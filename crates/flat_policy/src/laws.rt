@@ -62,8 +62,8 @@ pub fn empty_is_well_formed()
     ensures { EmptyIsWellFormed }
 {}
 
-/// Each step at a cluster keeps its queue well-formed: an enter where there is room for one more, and
-/// every other.
+/// Each step at a cluster keeps its queue well-formed: an enter where there is room for one more and the thread
+/// fits the setup, a pull of an entry that stands there, and every other.
 pub fn steps_keep_well_formed()
     ensures { StepsKeepWellFormed }
 {}

@@ -1,9 +1,9 @@
 //! The setup: the clusters, the edges between them, the groups and the times.
 
-ghost use Rattle.std.specs.Prelude.{◌≡◌, ◌≤◌, ◌<◌, length, map, slice_get, sum_by};
+ghost use Rattle.std.specs.Prelude.{IsTrue, ◌≡◌, ◌≤◌, ◌<◌, length, map, slice_get, sum_by};
 ghost use Rattle.flat_policy.specs.Policy.Setup.{actor_count, cluster_count, cluster_times, cpus_of, group_count, home_among, home_of, preferred_cluster, rate_of, times_for};
-ghost use Rattle.flat_policy.specs.Policy.Machine.{fits_act, fits_step};
-ghost use Rattle.flat_policy.specs.Policy.BuiltSetups.{IsEdge, IsSetup, IsTimes};
+ghost use Rattle.flat_policy.specs.Policy.Machine.{fits_act, fits_step, numbers_fit};
+ghost use Rattle.flat_policy.specs.Policy.BuiltSetups.{IsClusterTimes, IsEdge, IsSetup, IsTimes};
 ghost use Rattle.flat_policy.specs.Representation.SetupInside.{parts_of_size};
 
 mod build;
@@ -11,6 +11,10 @@ mod lists;
 mod ranges;
 
 use bucket_tables::Table;
+use sched_base::limits::{
+    BUCKET_COUNT, LEAST_RATE, MOMENT_LIMIT, MOST_ACTORS, MOST_BASE, MOST_CLUSTERS, MOST_EDGES,
+    MOST_GROUPS, MOST_RATE, MOST_THREADS,
+};
 use sched_base::{Act, Bucket, Step};
 use std::alloc::AllocError;
 use std::fmt;
@@ -90,15 +94,18 @@ struct ClusterSize {
     rate: u32,
 }
 
+/// A row of the table of times: the WCEL, WARP and QUANTUM of each bucket, one after the other.
+const TIME_COLUMNS: usize = 3 * BUCKET_COUNT;
+
 /// A setup in its ranges. Contracts see its lists and numbers.
 #[derive(Drop)]
 pub struct Setup {
     clusters: Vec<ClusterSize>,
     actors: u8,
     edges: Vec<EdgeSpec>,
-    groups: Vec<[u8; 6]>,
+    groups: Vec<[u8; BUCKET_COUNT]>,
     threads: u32,
-    times: Table<8, 18>,
+    times: Table<MOST_CLUSTERS, TIME_COLUMNS>,
     version: u8,
 }
 
@@ -128,7 +135,7 @@ impl Setup {
     pub fn clusters(&self) -> u8
         ensures count { result ≡ cluster_count self.now }
         ensures least { 1 ≤ result }
-        ensures most { result ≤ 8 }
+        ensures most { result ≤ MOST_CLUSTERS }
     {
         self.clusters.len() as u8
     }
@@ -137,7 +144,7 @@ impl Setup {
     pub fn actors(&self) -> u8
         ensures count { result ≡ actor_count self.now }
         ensures least { 1 ≤ result }
-        ensures most { result ≤ 16 }
+        ensures most { result ≤ MOST_ACTORS }
     {
         self.actors
     }
@@ -146,7 +153,7 @@ impl Setup {
     pub fn groups(&self) -> u8
         ensures count { result ≡ group_count self.now }
         ensures least { 1 ≤ result }
-        ensures most { result ≤ 64 }
+        ensures most { result ≤ MOST_GROUPS }
     {
         self.groups.len() as u8
     }
@@ -155,7 +162,7 @@ impl Setup {
     pub fn threads(&self) -> u32
         ensures threads { result ≡ self.now.threads }
         ensures least { 1 ≤ result }
-        ensures most { result ≤ 4096 }
+        ensures most { result ≤ MOST_THREADS }
     {
         self.threads
     }
@@ -172,7 +179,7 @@ impl Setup {
     /// The number of edges, at most 56.
     pub fn edge_count(&self) -> u8
         ensures count { result ≡ length self.now.edges }
-        ensures most { result ≤ 56 }
+        ensures most { result ≤ MOST_EDGES }
     {
         self.edges.len() as u8
     }
@@ -182,7 +189,7 @@ impl Setup {
         requires { c < cluster_count self.now }
         ensures cpus { result ≡ cpus_of self.now c }
         ensures least { 1 ≤ result }
-        ensures most { result ≤ 16 }
+        ensures most { result ≤ MOST_ACTORS }
     {
         self.clusters[c as usize].cpus
     }
@@ -191,8 +198,8 @@ impl Setup {
     pub fn rate(&self, c: u8) -> u32
         requires { c < cluster_count self.now }
         ensures rate { result ≡ rate_of self.now c }
-        ensures least { 100 ≤ result }
-        ensures most { result ≤ 1000 }
+        ensures least { LEAST_RATE ≤ result }
+        ensures most { result ≤ MOST_RATE }
     {
         self.clusters[c as usize].rate
     }
@@ -207,9 +214,26 @@ impl Setup {
         let column = b.index() as usize;
         Times {
             wcel: self.times.get(row, column) as u32,
-            warp: self.times.get(row, column + 6) as u32,
-            quantum: self.times.get(row, column + 12) as u32,
+            warp: self.times.get(row, column + BUCKET_COUNT) as u32,
+            quantum: self.times.get(row, column + 2 * BUCKET_COUNT) as u32,
         }
+    }
+
+    /// The times of a cluster, by bucket index, in microseconds.
+    pub fn cluster_times(&self, c: u8) -> [Times; BUCKET_COUNT]
+        requires { c < cluster_count self.now }
+        ensures times { result ≡ cluster_times self.now c }
+        ensures ranges { IsClusterTimes result }
+    {
+        self.keeps_ranges();
+        [
+            self.times(c, Bucket::Ui),
+            self.times(c, Bucket::Fg),
+            self.times(c, Bucket::Ini),
+            self.times(c, Bucket::Df),
+            self.times(c, Bucket::Ut),
+            self.times(c, Bucket::Bg),
+        ]
     }
 
     /// The cluster of an actor. Actors are numbered through all clusters, those of cluster 0
@@ -241,15 +265,16 @@ impl Setup {
     }
 
     /// Whether the moment of a step is below 2^40, its base at most 127, and its actor, clusters,
-    /// group and bound cluster below the setup's counts.
+    /// group and bound cluster below the setup's counts. Its names and spans fit by their type.
     pub fn fits(&self, s: &Step) -> bool
         ensures { result ≡ fits_step self.now s.now }
     {
-        s.moment < 1 << 40 && s.actor < self.actors() && self.fits_act(s.act)
+        s.moment < MOMENT_LIMIT && s.actor < self.actors() && self.fits_act(s.act)
     }
 
     fn fits_act(&self, act: Act) -> bool
-        ensures { result ≡ fits_act self.now act }
+        ensures fits { result ≡ fits_act self.now act }
+        ensures numbers { IsTrue (numbers_fit act) }
     {
         match act {
             Act::Make {
@@ -258,7 +283,9 @@ impl Setup {
                 bound,
                 ..
             } => {
-                group < self.groups() && base <= 127 && bound.is_none_or(|c| c < self.clusters())
+                group < self.groups()
+                    && base <= MOST_BASE
+                    && bound.is_none_or(|c| c < self.clusters())
             }
             Act::Enter { cluster, .. }
             | Act::Offer { cluster }
@@ -273,7 +300,7 @@ impl Setup {
 /// The place of the cluster that has an actor, with the actors numbered through all clusters.
 fn home_among(clusters: &[ClusterSize], actor: u8) -> u8
     requires some { actor < sum_by (λ k. k.cpus) clusters.now }
-    requires few { length clusters.now ≤ 8 }
+    requires few { length clusters.now ≤ MOST_CLUSTERS }
     ensures home { result ≡ home_among (map parts_of_size clusters.now) actor }
     ensures below { result < length clusters.now }
 {

@@ -1,6 +1,7 @@
 //! What a line of text says, and the faults that it may have.
 
 use crate::setup::Field;
+use sched_base::limits::MOST_SPANS;
 use sched_base::{Answer, Bucket, Step};
 
 /// The first fault of a line of a trace or of a run.
@@ -59,7 +60,7 @@ pub struct ProgramLine {
     pub bucket: Bucket,
     pub base: u8,
     pub bound: Option<u8>,
-    pub spans: [u32; 15],
+    pub spans: [u32; MOST_SPANS],
     pub count: u8,
 }
 

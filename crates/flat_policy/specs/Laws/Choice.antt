@@ -2,8 +2,7 @@
 use Rattle.std.specs.Prelude.{Bool, Contains, List, None, Option, Some, [], false, fold, if◌then◌else◌, is_some, true, ◌≡◌, ◌↔◌, ◌∷◌}
 use Rattle.flat_policy.specs.Policy.Unpreceded.{IsUnpreceded, unpreceded}
 
--- a test strictly orders the members of a list: none is before itself, what is before carries on,
--- and two members of which neither is before the other are one
+-- a test strictly orders a list's members: none is before itself, what is before carries on, and two of which neither is before the other are one
 pub record OrdersMembers {X : Type 0} (before : X → X → Bool) (xs : List X) : Type 0 where
   pub irreflexive : (x : X) → Contains xs x → before x x ≡ false
   pub transitive : (x y z : X) → Contains xs x → Contains xs y → Contains xs z → before x y ≡ true → before y z ≡ true → before x z ≡ true
@@ -19,8 +18,7 @@ abbrev pub better : {X : Type 0} → (X → X → Bool) → Option X → X → O
 better before None y = Some y
 better before (Some x) y = if before y x then Some y else Some x
 
--- the choice is there exactly where the list has members, is the member that no member precedes, which is only one,
--- and is the best by one pass over the list
+-- the choice is there exactly where the list has members, is the only member that none precedes, and is the best by one pass over the list
 pub record ChoosesOne {X : Type 0} (before : X → X → Bool) (xs : List X) : Type 0 where
   pub there : is_some (unpreceded before xs) ≡ has_member xs
   pub chosen : (x : X) → (unpreceded before xs ≡ Some x) ↔ IsUnpreceded before xs x

@@ -25,8 +25,7 @@ RunsKeepCounts = (setup : SetupParts) (history : List Entry) (end : MachineState
 abbrev pub RunsStaySound : Type 0
 RunsStaySound = (setup : SetupParts) (history : List Entry) (end : MachineState) → GRun setup history end → Sound setup end
 
--- after every run no more threads live, and no more stand in all queues together, than the setup allows; so each queue is
--- well-formed where the setup allows no more than 4096
+-- no more threads live than the setup allows, no more are queued than live, and each queue is well-formed where the setup allows no more than 4096
 pub record StaysWithin (setup : SetupParts) (g : MachineState) : Type 0 where
   pub live : live_count g.yard ≤ setup.threads
   pub queued : sum_by (λ (s : Flat). length s.entries) g.flats ≤ live_count g.yard

@@ -15,8 +15,7 @@ use Rattle.flat_policy.specs.Policy.WellFormed.{WellFormed}
 abbrev pub EmptyIsWellFormed : Type 0
 EmptyIsWellFormed = (groups : ℕ) → WellFormed groups (empty_flat groups)
 
--- after each step at a cluster its queue is well-formed: after an enter where there is room for one more and the thread
--- fits the setup, after a pull of an entry that stands there, and after every other step
+-- the queue after each step at a cluster is well-formed: an enter asks for room and for a thread that fits, and a pull for an entry that stands there
 pub record StaysWellFormed (setup : SetupParts) (s : Flat) : Type 0 where
   pub entering : (c : ℕ) (t : Facts) (head : Bool) (now : ℕ) → length s.entries < most_threads → ThreadFits setup t → WellFormed (group_count setup) (enter_event setup c t head now s).flat
   pub selecting : (c now : ℕ) → WellFormed (group_count setup) (select_event setup c now s).flat
@@ -39,8 +38,7 @@ pub record RisesBy (arrivals turns : ℕ) (s next : Flat) : Type 0 where
   pub arrival : next.next_arrival ≤ s.next_arrival + arrivals
   pub turn : next.next_turn ≤ s.next_turn + turns
 
--- how far each step at a cluster raises them: an entering by an arrival and a turn, a removal by a turn, and a refresh by a turn for each
--- clutch bucket
+-- how far each step at a cluster raises them: an enter both by one, a removal the turn by one, and a refresh the turn by one for each clutch bucket
 pub record StepRises (setup : SetupParts) (s : Flat) : Type 0 where
   pub entering : (c : ℕ) (t : Facts) (head : Bool) (now : ℕ) → RisesBy 1 1 s (enter_event setup c t head now s).flat
   pub selecting : (c now : ℕ) → RisesBy 0 1 s (select_event setup c now s).flat
@@ -50,5 +48,6 @@ pub record StepRises (setup : SetupParts) (s : Flat) : Type 0 where
   pub refreshing : (now : ℕ) → RisesBy 0 (group_count setup * 6) s (refresh_event setup now s).flat
   pub powering : (on : Bool) (now : ℕ) → RisesBy 0 0 s (power_event on now s).flat
 
+-- every step at a cluster raises them by no more
 abbrev pub StepsRiseByFew : Type 0
 StepsRiseByFew = (setup : SetupParts) (s : Flat) → StepRises setup s

@@ -42,5 +42,6 @@ pub record MaskedByLane (mask : ℕ) (s : Flat) : Type 0 where
   pub first : (b : Bucket) → IsLowestMasked mask s b → offered_masked mask s ≡ unpreceded (precedes_in_lane s) (lane_entries s (lane b false))
   pub none : ((b : Bucket) → mask_has mask b ≡ true → has_entries s (lane b false) ≡ false) → offered_masked mask s ≡ None
 
+-- every well-formed queue offers so by the mask
 abbrev pub MaskedOffersByLane : Type 0
 MaskedOffersByLane = (groups mask : ℕ) (s : Flat) → WellFormed groups s → MaskedByLane mask s

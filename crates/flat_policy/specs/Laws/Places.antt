@@ -39,6 +39,7 @@ pub record TakesRightly (setup : SetupParts) (g : MachineState) (e : Entry) : Ty
       → MayTake setup c (home_of setup e.step.actor) (flat_at g c) t
   pub entered : (c p : ℕ) (head : Bool) (t : Facts) → e.step.act ≡ acts.Enter c head → e.answer ≡ answers.Pri p → e.thread ≡ Some t → MayEnter setup t c
 
+-- every line of a history of the machine takes and enters so
 abbrev pub TakersMayTake : Type 0
 TakersMayTake =
     (setup : SetupParts) (front back : List Entry) (e : Entry) (g end : MachineState)

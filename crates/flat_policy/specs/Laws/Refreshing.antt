@@ -1,5 +1,5 @@
 -- The law of a refresh, lane by lane.
-use Rattle.std.specs.Prelude.{List, [], fold, ℕ, ◌∷◌, ◌≡◌}
+use Rattle.std.specs.Prelude.{[], fold, ℕ, ◌∷◌, ◌≡◌}
 use Rattle.sched_base.specs.declared.Bucket.{Bucket}
 use Rattle.sched_base.specs.declared.Bucket.TheVariants.{Bg, Df, Fg, Ini, Ut}
 use Rattle.flat_policy.specs.Policy.Queue.{Flat}

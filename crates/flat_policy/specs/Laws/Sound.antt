@@ -1,5 +1,5 @@
 -- Sound states: what every state of the machine keeps that a run reaches.
-use Rattle.std.specs.Prelude.{Contains, IsTrue, Some, length, ℕ, ◌<◌, ◌≡◌, ◌≤◌}
+use Rattle.std.specs.Prelude.{Contains, IsTrue, Some, length, ℕ, ◌<◌, ◌≡◌}
 use Rattle.sched_base.specs.Limits.{moment_limit}
 use Rattle.sched_base.specs.declared.Facts.{Facts}
 use Rattle.sched_base.specs.declared.Step.{Step}

@@ -47,6 +47,7 @@ pub record LanePriorities (s : Flat) : Type 0 where
   pub bound : (b : Bucket) → has_entries s (lane b true) ≡ true → lane_priority s (lane b true) ≡ bound_priority s b
   pub unbound : (b : Bucket) (k : Clutch) → IsFirstClutch s (lane b false) k → lane_priority s (lane b false) ≡ clutch_priority s k
 
+-- the lanes of every well-formed queue have those priorities
 abbrev pub LanePrioritiesAreOfUnits : Type 0
 LanePrioritiesAreOfUnits = (groups : ℕ) (s : Flat) → WellFormed groups s → LanePriorities s
 

@@ -31,23 +31,28 @@ pub data WindowEvent : Type 0 where
   -- anything else
   no_event : WindowEvent
 
+-- a select is an event only where the cluster is on
 abbrev pub event_if_on : Bool → ℕ → WindowEvent
 event_if_on true now = select_at now
 event_if_on false now = no_event
 
+-- an entering is an event only where the lane had no entries
 abbrev pub event_if_empty : Bool → ℕ → Lane → WindowEvent
 event_if_empty true now at = no_event
 event_if_empty false now at = lane_fills now at
 
+-- the event of the thread that a line enters
 abbrev pub event_of_entering : Flat → ℕ → Option Facts → WindowEvent
 event_of_entering s now None = no_event
 event_of_entering s now (Some t) = event_if_empty (has_entries s (lane_of t)) now (lane_of t)
 
+-- what a line is to the windows, by its act
 abbrev pub window_event_by : Flat → Line → Act → WindowEvent
 window_event_by s l (acts.Enter at head) = event_of_entering s (moment_of l) l.entry.thread
 window_event_by s l acts.Select = event_if_on s.on (moment_of l)
 window_event_by s l _ = no_event
 
+-- what a line is to the windows of a queue
 abbrev pub window_event : Flat → Line → WindowEvent
 window_event s l = window_event_by s l (act_of l)
 
@@ -114,7 +119,7 @@ WarpLaw =
     (setup : SetupParts) (c : ℕ) (at : Lane) (ls : List Line) (end : Flat)
     → IsTimeshare at → CRun setup c ls end → WarpKept setup c at None (empty_flat (group_count setup)) ls
 
--- the first Starve choice since a renewal, after a choice, and whether a Starve lies within the window
+-- the first Starve choice of a lane since a renewal, after a choice
 abbrev pub first_starve_after : Option ℕ → ℕ → Option Kind → Option ℕ
 first_starve_after first now None = first
 first_starve_after first now (Some Natural) = None
@@ -122,6 +127,7 @@ first_starve_after first now (Some Pass) = first
 first_starve_after None now (Some Starve) = Some now
 first_starve_after (Some m) now (Some Starve) = Some m
 
+-- a Starve lies within the starvation window that began with the first
 abbrev pub StarveIsWithin : ℕ → Option ℕ → ℕ → Option Kind → Type 0
 StarveIsWithin quantum first now None = ⊤
 StarveIsWithin quantum first now (Some Natural) = ⊤
@@ -146,19 +152,19 @@ NaturalRenews ts now after (Some Natural) = IsRenewed ts now after
 NaturalRenews ts now after (Some Pass) = ⊤
 NaturalRenews ts now after (Some Starve) = ⊤
 
--- the first Starve choice since a renewal, after an event: the end of a window and an entering into the empty lane renew, too
+-- the first Starve choice since a renewal; none where the deadline was just renewed
 abbrev pub unless_renewed : Bool → Option ℕ → Option ℕ
 unless_renewed true first = None
 unless_renewed false first = first
 
+-- the first Starve choice since a renewal, after an event: the end of a window and an entering into the empty lane renew, too
 abbrev pub first_starve_by : Expiring → List Times → Flat → Lane → Option ℕ → WindowEvent → Option ℕ
 first_starve_by expiring ts s at first (select_at now) =
     first_starve_after (unless_renewed (window_ends ts s now at) first) now (chosen_kind expiring ts s now at)
 first_starve_by expiring ts s at first (lane_fills now filled) = unless_renewed (same_lane filled at) first
 first_starve_by expiring ts s at first no_event = first
 
--- a select keeps the starvation window of a lane: one that is over ends in time, and ending renews the deadline before the choice;
--- a Starve lies within it; and a Natural choice renews the deadline
+-- a select keeps a lane's starvation window: it ends in time and so renews the deadline, a Starve lies within it, and a Natural choice renews the deadline
 pub record SelectKeepsWindow (expiring : Expiring) (ts : List Times) (s next : Flat) (at : Lane) (first : Option ℕ) (now : ℕ) : Type 0 where
   pub in_time : EndsInTime (times_for ts at.bucket).quantum first now (window_ends ts s now at)
   pub ending_renews : IsTrue (window_ends ts s now at) → IsRenewed ts now (lane_state (expiring ts s now) at)

@@ -1,6 +1,5 @@
 -- What every setup keeps once it is built.
-use Rattle.std.specs.Prelude.{All, AllPairs, length, map, ℕ, ◌<◌, ◌≡◌, ◌≢◌, ◌≤◌, ◌⊎◌}
-use Rattle.std.specs.Prelude.{List}
+use Rattle.std.specs.Prelude.{All, AllPairs, List, length, map, ℕ, ◌<◌, ◌≡◌, ◌≢◌, ◌≤◌, ◌⊎◌}
 use Rattle.sched_base.specs.Limits.{least_quantum, least_rate, most_actors, most_clusters, most_edges, most_groups, most_quantum, most_rate, most_threads, most_warp, most_wcel, most_weight, steal_masks}
 use Rattle.sched_base.specs.declared.Bucket.TheVariants.{Ui}
 use Rattle.flat_policy.specs.Policy.Setup.{ClusterParts, SetupParts, actor_count, all_buckets, cluster_count, group_count, times_for, times_of_version_one}
@@ -26,6 +25,7 @@ pub record IsEdge (count : ℕ) (e : EdgeSpec) : Type 0 where
 abbrev pub SameEnds : EdgeSpec → EdgeSpec → Type 0
 SameEnds e f = (e.from ≡ f.from) × (e.to ≡ f.to)
 
+-- two edges whose ends are not the same
 abbrev pub OtherEnds : EdgeSpec → EdgeSpec → Type 0
 OtherEnds e f = ¬ SameEnds e f
 

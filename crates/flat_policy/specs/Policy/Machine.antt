@@ -6,7 +6,6 @@ use Rattle.sched_base.specs.Facts.{charged, rested}
 use Rattle.sched_base.specs.Limits.{moment_limit, most_base}
 use Rattle.sched_base.specs.declared.Act.{Act}
 use Rattle.sched_base.specs.declared.Answer.{Answer}
-use Rattle.sched_base.specs.declared.Bucket.{Bucket}
 use Rattle.sched_base.specs.declared.Entry.{Entry}
 use Rattle.sched_base.specs.declared.Facts.{Facts}
 use Rattle.sched_base.specs.declared.Place.{Place}
@@ -54,10 +53,11 @@ no_looks setup = replicate (cluster_count setup) None
 abbrev pub empty_hand : SetupParts → ℕ → Hand
 empty_hand setup last = record { thread = None; looks = no_looks setup; last = last }
 
--- the machine before any step
+-- the yard before any step
 abbrev pub empty_yard : Yard
 empty_yard = record { blocked = []; ended = []; made = []; last = 0 }
 
+-- the machine before any step
 abbrev pub empty_machine : SetupParts → MachineState
 empty_machine setup = record {
   flats = replicate (cluster_count setup) (empty_flat (group_count setup));
@@ -65,13 +65,15 @@ empty_machine setup = record {
   yard = empty_yard;
 }
 
--- the queue of a cluster, and the hand of an actor
+-- the queue of a cluster
 abbrev pub flat_at : MachineState → ℕ → Flat
 flat_at g c = slice_index_or g.flats c (empty_flat 0)
 
+-- the hand of an actor that is not there
 abbrev pub no_hand : Hand
 no_hand = record { thread = None; looks = []; last = 0 }
 
+-- the hand of an actor
 abbrev pub hand_at : MachineState → ℕ → Hand
 hand_at g a = slice_index_or g.hands a no_hand
 
@@ -82,6 +84,7 @@ pub data Site : Type 0 where
   in_the_yard : Site
   in_hand : Site
 
+-- where each act happens
 abbrev pub site_of : Act → Site
 site_of (acts.Make name group bucket base bound) = in_the_yard
 site_of (acts.Enter c head) = at_named c
@@ -99,13 +102,14 @@ site_of acts.Refresh = at_home
 site_of (acts.Off c) = at_named c
 site_of (acts.On c) = at_named c
 
--- the spot of a step: a cluster, the yard, or none; home is the cluster of its actor
+-- the spot of a site: a cluster, the yard, or none; home is the cluster of the actor
 abbrev pub spot_from : ℕ → Site → Option Spot
 spot_from home at_home = Some (spots.Cluster home)
 spot_from home (at_named c) = Some (spots.Cluster c)
 spot_from home in_the_yard = Some spots.Yard
 spot_from home in_hand = None
 
+-- the spot of a step
 abbrev pub spot_of : SetupParts → Step → Option Spot
 spot_of setup step = spot_from (home_of setup step.actor) (site_of step.act)
 
@@ -119,25 +123,30 @@ last_at g (Some spots.Yard) = g.yard.last
 abbrev pub effective_moment : SetupParts → MachineState → Step → ℕ
 effective_moment setup g step = max (max step.moment (hand_at g step.actor).last) (last_at g (spot_of setup step))
 
--- where a name stands: the first of the queues, then the hands, then the yard that has it
+-- the first of some queues that has a name, with the clusters numbered from c on
 abbrev pub queued_in : List Flat → ℕ → ℕ → Option Place
 queued_in [] c name = None
 queued_in (s ∷ ss) c name = if is_some (named_entry s name) then Some (places.Queue c) else queued_in ss (c + 1) name
 
+-- whether a hand holds a thread of that name
 abbrev pub holds : ℕ → Option Facts → Bool
 holds name None = false
 holds name (Some t) = t.name == name
 
+-- the first of some hands that holds a name, with the actors numbered from a on
 abbrev pub held_by : List Hand → ℕ → ℕ → Option Place
 held_by [] a name = None
 held_by (h ∷ hs) a name = if holds name h.thread then Some (places.Hand a) else held_by hs (a + 1) name
 
+-- whether a name is blocked in the yard
 abbrev pub is_blocked : Yard → ℕ → Bool
 is_blocked y name = list_any (λ (w : Sleeper). w.facts.name == name) y.blocked
 
+-- where a name stands that is in no queue and no hand: blocked, ended, or nowhere
 abbrev pub in_yard : Yard → ℕ → Place
 in_yard y name = if is_blocked y name then places.Blocked else (if list_any (λ n. n == name) y.ended then places.Ended else places.Nowhere)
 
+-- where a name stands: the first of the queues, then the hands, then the yard that has it
 abbrev pub place_of : MachineState → ℕ → Place
 place_of g name = unwrap_or (queued_in g.flats 0 name) (unwrap_or (held_by g.hands 0 name) (in_yard g.yard name))
 
@@ -146,6 +155,7 @@ pub record Refusal : Type 0 where
   pub holds : Bool
   pub answer : Answer
 
+-- a refusal by its condition and its answer
 abbrev pub refuse : Bool → Answer → Refusal
 refuse holds answer = record { holds = holds; answer = answer }
 
@@ -158,40 +168,45 @@ abbrev pub first_refusal : List Refusal → Option Answer
 first_refusal [] = None
 first_refusal (r ∷ rs) = if r.holds then Some r.answer else first_refusal rs
 
--- the conditions of refusals: of the hand, of names, and of the number of live threads
+-- refused where the hand holds a thread
 abbrev pub hand_full : Hand → Refusal
 hand_full h = refuse (is_some h.thread) answers.HandFull
 
+-- refused where the hand holds no thread
 abbrev pub hand_empty : Hand → Refusal
 hand_empty h = refuse (is_none h.thread) answers.HandEmpty
 
+-- how many threads live: those made less those ended
 abbrev pub live_count : Yard → ℕ
 live_count y = length y.made - length y.ended
 
+-- refused where the name was used before
 abbrev pub name_used : Yard → ℕ → Refusal
 name_used y name = refuse (list_any (λ n. n == name) y.made) answers.NameUsed
 
+-- refused where as many threads live as the setup allows
 abbrev pub no_room : SetupParts → Yard → Refusal
 no_room setup y = refuse (nat_le setup.threads (live_count y)) answers.NoRoom
 
--- the thread of a hand may not enter the cluster
+-- refused where the hand's thread may not enter the cluster
 abbrev pub not_allowed : SetupParts → Option Facts → ℕ → Refusal
 not_allowed setup None c = no_refusal
 not_allowed setup (Some t) c = refuse (not (may_enter setup t c)) answers.NotAllowed
 
--- the name does not stand in the home's queue
+-- refused where the name does not stand in the home's queue
 abbrev pub not_queued : MachineState → Flat → ℕ → Refusal
 not_queued g s name = refuse (is_none (named_entry s name)) (answers.NotQueued (place_of g name))
 
--- the name is not blocked
+-- refused where the name is not blocked
 abbrev pub not_blocked : MachineState → ℕ → Refusal
 not_blocked g name = refuse (not (is_blocked g.yard name)) (answers.NotBlocked (place_of g name))
 
--- the aim needs a look
+-- refused where a cluster has to be looked at first
 abbrev pub look_first_by : Option ℕ → Refusal
 look_first_by None = no_refusal
 look_first_by (Some c) = refuse true (answers.LookFirst c)
 
+-- refused where the aim of the hand's thread lacks a look
 abbrev pub look_first : SetupParts → Hand → Option Facts → Refusal
 look_first setup h None = no_refusal
 look_first setup h (Some t) = look_first_by (not_looked setup h.looks t)
@@ -218,13 +233,15 @@ refusals_by setup g a h (acts.On c) = []
 abbrev pub refusal : SetupParts → MachineState → Step → Option Answer
 refusal setup g step = first_refusal (refusals_by setup g step.actor (hand_at g step.actor) step.act)
 
--- a hand after its actor's step: filled or emptied, which forgets its looks, or as it was with another last moment
+-- a hand with a new thread, which forgets its looks
 abbrev pub filled_hand : SetupParts → Facts → ℕ → Hand
 filled_hand setup t now = record { thread = Some t; looks = no_looks setup; last = now }
 
+-- a hand as it was, with another last moment
 abbrev pub kept_hand : Hand → ℕ → Hand
 kept_hand h now = record h { last = now }
 
+-- a hand that takes the thread that a step moved, if it moved one
 abbrev pub taking_hand : SetupParts → Hand → Option Facts → ℕ → Hand
 taking_hand setup h None now = kept_hand h now
 taking_hand setup h (Some t) now = filled_hand setup t now
@@ -234,16 +251,19 @@ abbrev pub look_told : Answer → Look
 look_told (answers.Load l) = loaded l
 look_told _ = off
 
+-- a hand with the look that a look's answer tells
 abbrev pub looked_hand : Hand → ℕ → Answer → ℕ → Hand
 looked_hand h c answer now = record h { looks = slice_set h.looks c (Some (look_told answer)); last = now }
 
--- one hand, one queue, or the yard changes
+-- one actor's hand changes
 abbrev pub with_hand : ℕ → Hand → MachineState → MachineState
 with_hand a h g = record g { hands = slice_set g.hands a h }
 
+-- one cluster's queue changes
 abbrev pub with_flat : ℕ → Flat → MachineState → MachineState
 with_flat c s g = record g { flats = slice_set g.flats c s }
 
+-- the yard changes
 abbrev pub with_yard : Yard → MachineState → MachineState
 with_yard y g = record g { yard = y }
 
@@ -274,11 +294,12 @@ make_outcome setup g a now t = record {
   state = with_hand a (filled_hand setup t now) (with_yard (record g.yard { made = g.yard.made ++ t.name ∷ []; last = now }) g);
 }
 
--- entering a cluster's queue with the hand's thread
+-- entering a cluster's queue, by what that comes to there
 abbrev pub enter_outcome_by : SetupParts → MachineState → ℕ → ℕ → ℕ → Event → Outcome
 enter_outcome_by setup g a c now e =
     record { answer = e.answer; thread = e.thread; state = with_hand a (empty_hand setup now) (with_flat c e.flat g) }
 
+-- entering a cluster's queue with the hand's thread
 abbrev pub enter_outcome : SetupParts → MachineState → ℕ → ℕ → Bool → ℕ → Option Facts → Outcome
 enter_outcome setup g a c head now None = nothing_done g
 enter_outcome setup g a c head now (Some t) = enter_outcome_by setup g a c now (enter_event setup c t head now (flat_at g c))
@@ -288,10 +309,11 @@ abbrev pub pull_outcome : SetupParts → MachineState → ℕ → Hand → ℕ �
 pull_outcome setup g a h c now None = nothing_done g
 pull_outcome setup g a h c now (Some e) = taking setup g a h c now (pull_event e now (flat_at g c))
 
--- looking at a cluster for the hand's bucket
+-- looking at a cluster, by what that comes to there
 abbrev pub look_outcome_by : MachineState → ℕ → Hand → ℕ → ℕ → Event → Outcome
 look_outcome_by g a h c now e = record { answer = e.answer; thread = None; state = with_hand a (looked_hand h c e.answer now) (with_flat c e.flat g) }
 
+-- looking at a cluster for the bucket of the hand's thread
 abbrev pub look_outcome : SetupParts → MachineState → ℕ → Hand → ℕ → ℕ → Option Facts → Outcome
 look_outcome setup g a h c now None = nothing_done g
 look_outcome setup g a h c now (Some t) = look_outcome_by g a h c now (look_event setup c t.bucket now (flat_at g c))
@@ -301,15 +323,17 @@ abbrev pub aim_answer : Result ℕ ℕ → Answer
 aim_answer (Ok c) = answers.To c
 aim_answer (Err c) = answers.LookFirst c
 
+-- aiming with the hand's thread and looks
 abbrev pub aim_outcome : SetupParts → MachineState → ℕ → Hand → ℕ → Option Facts → Outcome
 aim_outcome setup g a h now None = nothing_done g
 aim_outcome setup g a h now (Some t) =
     record { answer = aim_answer (aim setup h.looks t); thread = None; state = with_hand a (kept_hand h now) g }
 
--- charging the hand's thread
+-- the hand's thread as charged
 abbrev pub ran_outcome_by : MachineState → ℕ → Hand → ℕ → Facts → Outcome
 ran_outcome_by g a h now t = record { answer = answers.Work t.work; thread = Some t; state = with_hand a (record h { thread = Some t; last = now }) g }
 
+-- charging the hand's thread at the rate of the actor's home
 abbrev pub ran_outcome : SetupParts → MachineState → ℕ → Hand → ℕ → ℕ → Option Facts → Outcome
 ran_outcome setup g a h us now None = nothing_done g
 ran_outcome setup g a h us now (Some t) = ran_outcome_by g a h now (charged us (rate_of setup (home_of setup a)) t)
@@ -332,7 +356,7 @@ sleeper_of y name = find (λ (w : Sleeper). w.facts.name == name) y.blocked
 abbrev pub sleepers_without : ℕ → List Sleeper → List Sleeper
 sleepers_without name ws = filter (λ (w : Sleeper). not (w.facts.name == name)) ws
 
--- waking a blocked thread: the span since it went to sleep is to be counted
+-- a woken thread goes from the yard into the hand
 abbrev pub wake_outcome_by : SetupParts → MachineState → ℕ → ℕ → Facts → Outcome
 wake_outcome_by setup g a now t = record {
   answer = answers.Yes;
@@ -341,6 +365,7 @@ wake_outcome_by setup g a now t = record {
       (with_yard (record g.yard { blocked = sleepers_without t.name g.yard.blocked; last = now }) g);
 }
 
+-- waking a blocked thread: the span since it went to sleep is to be counted
 abbrev pub wake_outcome : SetupParts → MachineState → ℕ → ℕ → Option Sleeper → Outcome
 wake_outcome setup g a now None = nothing_done g
 wake_outcome setup g a now (Some w) = wake_outcome_by setup g a now (rested (now - w.since) w.facts)
@@ -383,7 +408,7 @@ accepted_by setup g a h now acts.Refresh =
 accepted_by setup g a h now (acts.Off c) = leaving_hand g a h c now (power_event false now (flat_at g c))
 accepted_by setup g a h now (acts.On c) = leaving_hand g a h c now (power_event true now (flat_at g c))
 
--- a refused step leaves all as it was
+-- what a step comes to by its refusal, if it has one: a refused step leaves all as it was
 abbrev pub outcome_by : SetupParts → MachineState → Step → Option Answer → Outcome
 outcome_by setup g step (Some answer) = record { answer = answer; thread = None; state = g }
 outcome_by setup g step None = accepted_by setup g step.actor (hand_at g step.actor) (effective_moment setup g step) step.act
@@ -404,11 +429,12 @@ reply setup g step = record {
 abbrev pub state_after : SetupParts → MachineState → Step → MachineState
 state_after setup g step = (outcome setup g step).state
 
--- the replies to a list of steps, and the state after them
+-- the replies to a list of steps
 abbrev pub replies : SetupParts → MachineState → List Step → List Entry
 replies setup g [] = []
 replies setup g (step ∷ steps) = reply setup g step ∷ replies setup (state_after setup g step) steps
 
+-- the state after a list of steps
 abbrev pub states_after : SetupParts → MachineState → List Step → MachineState
 states_after setup g [] = g
 states_after setup g (step ∷ steps) = states_after setup (state_after setup g step) steps
@@ -448,16 +474,19 @@ RunsFrom setup g (e ∷ es) end =
 abbrev pub GRun : SetupParts → List Entry → MachineState → Type 0
 GRun setup history end = RunsFrom setup (empty_machine setup) history end
 
--- how often a name stands in the queues, the hands, and among the blocked and the ended threads
+-- how often a name stands in a queue
 abbrev pub count_queued : ℕ → Flat → ℕ
 count_queued name s = count_by (λ (e : Queued). e.facts.name == name) s.entries
 
+-- how often a hand holds a name
 abbrev pub count_held : ℕ → Hand → ℕ
 count_held name h = if holds name h.thread then 1 else 0
 
+-- how often a name stands among the blocked and the ended threads
 abbrev pub count_in_yard : ℕ → Yard → ℕ
 count_in_yard name y = count_by (λ (w : Sleeper). w.facts.name == name) y.blocked + count_by (λ n. n == name) y.ended
 
+-- how often a name stands in the queues, the hands and the yard together
 abbrev pub place_count : MachineState → ℕ → ℕ
 place_count g name = sum_by (count_queued name) g.flats + sum_by (count_held name) g.hands + count_in_yard name g.yard
 

@@ -8,8 +8,7 @@ use Rattle.flat_policy.specs.Policy.Queue.{Flat, Queued}
 use Rattle.flat_policy.specs.Policy.Setup.{SetupParts, mask_has, migrates, steal_mask}
 use Rattle.flat_policy.specs.Policy.Unpreceded.{unpreceded}
 
--- the bucket indices that may be taken along the edge from one cluster to another, as the bits of a number:
--- all six where the first is off and threads may move along the edge, otherwise those of the edge
+-- the bucket indices that may be taken along an edge, as bits: all six where the first cluster is off and threads move along it, otherwise the edge's
 abbrev pub mask_between : SetupParts → ℕ → ℕ → Bool → ℕ
 mask_between setup from to on = if not on && migrates setup from to then steal_masks - 1 else steal_mask setup from to
 

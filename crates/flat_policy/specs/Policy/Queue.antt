@@ -32,8 +32,7 @@ pub record LaneState : Type 0 where
   pub warp : Warp
   pub starved : Starved
 
--- the queue of a cluster: its entries; used and blocked, and the turn, of each clutch bucket, at group * 6 + bucket index;
--- the windows of the ten timeshare lanes; its last moment; its next arrival and turn; and whether the cluster is on
+-- the queue of a cluster: entries; spans and turns of clutch buckets, at group * 6 + bucket index; lanes; last moment, next arrival and turn; and whether it is on
 pub record Flat : Type 0 where
   pub entries : List Queued
   pub spans : List Spans
@@ -99,6 +98,7 @@ clutch_of t = record { group = t.group; bucket = t.bucket }
 abbrev pub clutch_place : Clutch → ℕ
 clutch_place k = k.group * 6 + index k.bucket
 
+-- nothing used, and never blocked
 abbrev pub no_spans : Spans
 no_spans = record { used = 0; blocked = 0 }
 
@@ -114,10 +114,11 @@ turn_of s k = slice_index_or s.turns (clutch_place k) None
 abbrev pub in_clutch : Clutch → Queued → Bool
 in_clutch k e = not (is_some e.facts.bound) && ((e.facts.group == k.group) && same_bucket e.facts.bucket k.bucket)
 
--- the entries of a clutch bucket, and of a lane
+-- the entries of a clutch bucket
 abbrev pub clutch_entries : Flat → Clutch → List Queued
 clutch_entries s k = filter (in_clutch k) s.entries
 
+-- the entries of a lane
 abbrev pub lane_entries : Flat → Lane → List Queued
 lane_entries s l = filter (in_lane l) s.entries
 

@@ -24,7 +24,7 @@ between low high n = nat_le low n && nat_le n high
 abbrev pub is_cluster_row : List ℕ → Bool
 is_cluster_row row = between 1 most_actors (nth row 0) && between least_rate most_rate (nth row 1)
 
--- 1 to 8 clusters, 16 processors in all
+-- 1 to 8 clusters, and no more than 16 processors in all
 abbrev pub clusters_in_range : List (List ℕ) → Bool
 clusters_in_range clusters =
     between 1 most_clusters (length clusters) && (list_all is_cluster_row clusters && nat_le (sum_by (λ row. nth row 0) clusters) most_actors)
@@ -57,10 +57,11 @@ groups_in_range count groups = between 1 most_groups (length groups) && list_all
 abbrev pub threads_in_range : ℕ → Bool
 threads_in_range threads = between 1 most_threads threads
 
--- the times of one cluster, three rows by bucket index: WCEL, WARP and QUANTUM; WCEL and WARP of UI are 0
+-- one of the three rows of a cluster's times: WCEL, WARP and QUANTUM
 abbrev pub row_of_times : List (List ℕ) → ℕ → List ℕ
 row_of_times rows i = slice_index_or rows i []
 
+-- the times of one cluster, each row by bucket index: all in range, and WCEL and WARP of UI are 0
 abbrev pub is_times_row : List (List ℕ) → Bool
 is_times_row rows =
     (list_all (λ n. nat_le n most_wcel) (row_of_times rows 0) && list_all (λ n. nat_le n most_warp) (row_of_times rows 1))
@@ -76,6 +77,7 @@ pub record Ranged : Type 0 where
   pub field : Field
   pub holds : Bool
 
+-- a field and whether it is in range, put together
 abbrev pub ranged : Field → Bool → Ranged
 ranged field holds = record { field = field; holds = holds }
 
@@ -102,13 +104,15 @@ abbrev pub first_out_of_range_timed : List (List ℕ) → List (List ℕ) → Li
 first_out_of_range_timed clusters edges groups threads times =
     first_out (common_ranges clusters edges groups threads ++ ranged fields.Times (times_in_range (length clusters) times) ∷ [])
 
--- the parts of rows
+-- the cluster of a row
 abbrev pub cluster_of_row : List ℕ → ClusterParts
 cluster_of_row row = record { cpus = nth row 0; rate = nth row 1 }
 
+-- the edge of a row
 abbrev pub edge_of_row : List ℕ → EdgeSpec
 edge_of_row row = record { from = nth row 0; to = nth row 1; weight = nth row 2; migrate = nth row 3 == 1; steal = nth row 4 }
 
+-- the times of a bucket index, of the three rows of a cluster
 abbrev pub times_of_rows : List (List ℕ) → ℕ → Times
 times_of_rows rows i = record { wcel = nth (row_of_times rows 0) i; warp = nth (row_of_times rows 1) i; quantum = nth (row_of_times rows 2) i }
 

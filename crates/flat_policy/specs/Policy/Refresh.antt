@@ -20,10 +20,11 @@ repriced s now e =
     in if is_ui e.facts.bucket then e
     else record e { facts = t; pri = priority t.base t.bucket t.usage (length (unit_entries s e.facts)) }
 
--- all clutch buckets of so many groups, by bucket index, then group
+-- the clutch buckets of one bucket, for so many groups
 abbrev pub clutches_of : ℕ → Bucket → List Clutch
 clutches_of groups b = map (λ g. record { group = g; bucket = b }) (numbers_below groups)
 
+-- all clutch buckets of so many groups, by bucket index, then group
 abbrev pub all_clutches : ℕ → List Clutch
 all_clutches groups = flat_map (clutches_of groups) all_buckets
 

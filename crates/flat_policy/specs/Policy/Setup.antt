@@ -14,8 +14,7 @@ pub record ClusterParts : Type 0 where
   pub cpus : ℕ
   pub rate : ℕ
 
--- a setup: its clusters, its edges in their order, the preferred cluster of each group for each bucket index,
--- the most threads that live at once, the times of each cluster for each bucket index, and its version
+-- a setup: clusters, edges, the preferred clusters of each group by bucket index, the most live threads, the times of each cluster by bucket index, and version
 pub record SetupParts : Type 0 where
   pub clusters : List ClusterParts
   pub edges : List EdgeSpec
@@ -28,11 +27,12 @@ pub record SetupParts : Type 0 where
 abbrev pub all_buckets : List Bucket
 all_buckets = Ui ∷ Fg ∷ Ini ∷ Df ∷ Ut ∷ Bg ∷ []
 
--- the numbers below n, the least first
+-- so many numbers from the first on, each one more than the one before
 abbrev pub numbers_from : ℕ → ℕ → List ℕ
 numbers_from first zero = []
 numbers_from first (suc count) = first ∷ numbers_from (suc first) count
 
+-- the numbers below n, the least first
 abbrev pub numbers_below : ℕ → List ℕ
 numbers_below n = numbers_from 0 n
 
@@ -40,10 +40,11 @@ numbers_below n = numbers_from 0 n
 abbrev pub times_of_version_one : Bucket → Times
 times_of_version_one b = record { wcel = wcel_of b; warp = warp_of b; quantum = quantum_of b }
 
--- the times of a bucket, out of those of one cluster by bucket index
+-- times that are all 0
 abbrev pub no_times : Times
 no_times = record { wcel = 0; warp = 0; quantum = 0 }
 
+-- the times of a bucket, out of those of one cluster by bucket index
 abbrev pub times_for : List Times → Bucket → Times
 times_for ts b = slice_index_or ts (index b) no_times
 
@@ -51,28 +52,32 @@ times_for ts b = slice_index_or ts (index b) no_times
 abbrev pub cluster_times : SetupParts → ℕ → List Times
 cluster_times setup c = slice_index_or setup.times c []
 
--- how many clusters, groups and actors there are
+-- how many clusters there are
 abbrev pub cluster_count : SetupParts → ℕ
 cluster_count setup = length setup.clusters
 
+-- how many groups there are
 abbrev pub group_count : SetupParts → ℕ
 group_count setup = length setup.groups
 
+-- how many actors there are: one for each processor
 abbrev pub actor_count : SetupParts → ℕ
 actor_count setup = sum_by (λ (c : ClusterParts). c.cpus) setup.clusters
 
--- the processors and the rate of a cluster
+-- the processors of a cluster
 abbrev pub cpus_of : SetupParts → ℕ → ℕ
 cpus_of setup c = option_map_or (λ (k : ClusterParts). k.cpus) (slice_get setup.clusters c) 0
 
+-- the rate of a cluster
 abbrev pub rate_of : SetupParts → ℕ → ℕ
 rate_of setup c = option_map_or (λ (k : ClusterParts). k.rate) (slice_get setup.clusters c) 0
 
--- the cluster of an actor: actors are numbered through all clusters, those of cluster 0 first
+-- the cluster of an actor, among some: actors are numbered through all clusters, those of the first one first
 abbrev pub home_among : List ClusterParts → ℕ → ℕ
 home_among [] actor = 0
 home_among (c ∷ cs) actor = if nat_lt actor c.cpus then 0 else home_among cs (actor - c.cpus) + 1
 
+-- the cluster of an actor
 abbrev pub home_of : SetupParts → ℕ → ℕ
 home_of setup actor = home_among setup.clusters actor
 

@@ -15,7 +15,7 @@ abbrev pub made_thread : SetupParts → ℕ → ℕ → Bucket → ℕ → Optio
 made_thread setup name group bucket base bound now =
     fresh name group bucket base bound (preference setup group bucket bound) now
 
--- a thread's group, base and bound cluster are in range, it prefers the cluster that it should, and its name and spans are below 2^32
+-- a thread's group, base and bound cluster are in range, it prefers the cluster that it should, and its name, usage and spans are below 2^32
 pub record ThreadFits (setup : SetupParts) (t : Facts) : Type 0 where
   pub group : t.group < group_count setup
   pub base : t.base ≤ most_base

@@ -21,10 +21,11 @@ decay usage from to = decayed_by (ticks from to) usage
 abbrev pub usage_step : ℕ → ℕ
 usage_step n = 16000 / min n 8
 
--- the priority of a thread among n entries of its unit: its base, which usage lowers except for UI
+-- a base, lowered by usage among n entries of one unit
 abbrev pub lowered : ℕ → ℕ → ℕ → ℕ
 lowered base usage n = base - min base (usage / usage_step n)
 
+-- the priority of a thread among n entries of its unit: its base, which usage lowers except for UI
 abbrev pub priority : ℕ → Bucket → ℕ → ℕ → ℕ
 priority base Ui usage n = base
 priority base Fg usage n = lowered base usage n

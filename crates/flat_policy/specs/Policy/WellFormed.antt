@@ -35,7 +35,7 @@ pub record SmallSpans (s : Spans) : Type 0 where
   pub used : s.used < 2 ^ 30
   pub blocked : s.blocked < 2 ^ 30
 
--- what every queue of a setup with so many groups keeps, and that it has no more entries than a limit
+-- what every queue keeps that steps can reach, of a setup with so many groups, where it has no more entries than a limit
 pub record WellFormedWithin (limit groups : ℕ) (s : Flat) : Type 0 where
   pub few : length s.entries ≤ limit
   pub arrivals_rise : ArrivalsRise s.entries
@@ -52,6 +52,6 @@ pub record WellFormedWithin (limit groups : ℕ) (s : Flat) : Type 0 where
   pub turns_length : length s.turns ≡ groups * 6
   pub ten_lanes : map (λ (l : LaneState). l.lane) s.lanes ≡ timeshare_lanes
 
--- no queue has more entries than threads may live
+-- the same with the limit of how many threads may live
 abbrev pub WellFormed : ℕ → Flat → Type 0
 WellFormed groups s = WellFormedWithin most_threads groups s

@@ -45,10 +45,11 @@ expired ts s now = record s { lanes = map (expired_window ts now) s.lanes }
 abbrev pub lane_priority : Flat → Lane → ℕ
 lane_priority s l = greatest (map (λ (e : Queued). unit_priority s e.facts) (lane_entries s l))
 
--- the same over a bucket's bound and unbound lane
+-- the greatest unit priority in a bucket's bound and unbound lane
 abbrev pub bucket_priority : Flat → Bucket → ℕ
 bucket_priority s b = max (lane_priority s (lane b true)) (lane_priority s (lane b false))
 
+-- whether a bucket's bound or unbound lane has entries
 abbrev pub bucket_has_entries : Flat → Bucket → Bool
 bucket_has_entries s b = has_entries s (lane b true) || has_entries s (lane b false)
 
@@ -103,15 +104,17 @@ pub record Choice : Type 0 where
   pub lane : Lane
   pub kind : Option Kind
 
--- the choice by deadlines: a lane that may pass, else the earliest, starved where a higher lane has entries
+-- the choice of the lane due first: starved where a higher lane has entries
 abbrev pub chosen_behind : Bool → LaneState → Choice
 chosen_behind true e = record { lane = e.lane; kind = Some Starve }
 chosen_behind false e = record { lane = e.lane; kind = Some Natural }
 
+-- whether there is a higher lane
 abbrev pub some_higher : List LaneState → Bool
 some_higher [] = false
 some_higher (l ∷ ls) = true
 
+-- the choice against the lane due first: a lane that may pass it, if there is one, otherwise that lane itself
 abbrev pub choice_against : Option LaneState → List LaneState → LaneState → Choice
 choice_against (Some l) filled e = record { lane = l.lane; kind = Some Pass }
 choice_against None filled e = chosen_behind (some_higher (higher_of filled e)) e
@@ -120,14 +123,16 @@ choice_against None filled e = chosen_behind (some_higher (higher_of filled e)) 
 abbrev pub chosen_of : List Times → List LaneState → Option Choice
 chosen_of ts filled = option_map (λ (e : LaneState). choice_against (passing_of ts filled e) filled e) (earliest_of filled)
 
+-- the choice among the timeshare lanes with entries
 abbrev pub chosen_by_deadline : List Times → Flat → Option Choice
 chosen_by_deadline ts s = chosen_of ts (filled_lanes s)
 
--- the choice of an expired queue; none where it has no entries
+-- the choice where a UI lane goes before all others, and where none does
 abbrev pub chosen_under : Option Lane → List Times → Flat → Option Choice
 chosen_under (Some l) ts s = Some (record { lane = l; kind = None })
 chosen_under None ts s = chosen_by_deadline ts s
 
+-- the choice of an expired queue; none where it has no entries
 abbrev pub chosen : List Times → Flat → Option Choice
 chosen ts s = chosen_under (above_ui s) ts s
 

@@ -32,10 +32,11 @@ taking_line setup h l = if is_some h.thread then None else Some (untold l (takin
 abbrev pub giving_line : SetupParts → Line → Facts → HandEvent
 giving_line setup l t = record { answer = l.entry.answer; thread = Some t; hand = empty_hand setup (moment_of l) }
 
--- a look is for the bucket of the hand's thread
+-- whether a mark is the index of a thread's bucket
 abbrev pub is_mark_of : Facts → Option ℕ → Bool
 is_mark_of t mark = option_map_or (λ i. i == index t.bucket) mark false
 
+-- a look is for the bucket of the hand's thread, which its mark tells
 abbrev pub looking_line : Hand → Line → ℕ → Facts → Option HandEvent
 looking_line h l c t = where_true (is_mark_of t l.mark) (untold l (looked_hand h c l.entry.answer (moment_of l)))
 
@@ -65,6 +66,7 @@ hand_event_by setup h l (acts.Wake name) = taking_line setup h l
 hand_event_by setup h l acts.End = option_map (giving_line setup l) h.thread
 hand_event_by setup h l _ = Some (untold l (kept_hand h (moment_of l)))
 
+-- what a line comes to in a hand
 abbrev pub hand_event : SetupParts → Hand → Line → Option HandEvent
 hand_event setup h l = hand_event_by setup h l (act_of l)
 

@@ -21,13 +21,15 @@ use Rattle.flat_policy.specs.Policy.Unpreceded.{is_preceded, unpreceded}
 use Rattle.sched_base.specs.declared.Act.TheVariants as acts
 use Rattle.sched_base.specs.declared.Answer.TheVariants as answers
 
--- the moment, actor and act of a line
+-- the moment of a line
 abbrev pub moment_of : Line → ℕ
 moment_of l = l.entry.step.moment
 
+-- the actor of a line
 abbrev pub actor_of : Line → ℕ
 actor_of l = l.entry.step.actor
 
+-- the act of a line
 abbrev pub act_of : Line → Act
 act_of l = l.entry.step.act
 
@@ -73,7 +75,7 @@ event_by setup c s l (acts.Enter at head) =
 event_by setup c s l acts.Select = where_true (home_of setup (actor_of l) == c) (select_event setup c (moment_of l) s)
 event_by setup c s l (acts.Offer at) =
     where_true ((at == c) && not (home_of setup (actor_of l) == c))
-        (offer_event setup c (home_of setup (actor_of l)) (moment_of l) s)
+    (offer_event setup c (home_of setup (actor_of l)) (moment_of l) s)
 event_by setup c s l (acts.Pull name) =
     if home_of setup (actor_of l) == c then option_map (λ (e : Queued). pull_event e (moment_of l) s) (named_entry s name) else None
 event_by setup c s l (acts.Look at) =
@@ -83,10 +85,11 @@ event_by setup c s l (acts.Off at) = where_true (at == c) (power_event false (mo
 event_by setup c s l (acts.On at) = where_true (at == c) (power_event true (moment_of l) s)
 event_by setup c s l _ = None
 
+-- what a line comes to at a cluster
 abbrev pub cluster_event : SetupParts → ℕ → Flat → Line → Option Event
 cluster_event setup c s l = event_by setup c s l (act_of l)
 
--- a thread that enters is one of the setup
+-- a thread that enters fits the setup
 abbrev pub EntersFitting : SetupParts → Act → Option Facts → Type 0
 EntersFitting setup (acts.Enter at head) (Some t) = ThreadFits setup t
 EntersFitting setup _ _ = ⊤
@@ -128,6 +131,7 @@ pub record RunYard : Type 0 where
   pub made : List ℕ
   pub last : ℕ
 
+-- the yard of a run before any line
 abbrev pub empty_run_yard : RunYard
 empty_run_yard = record { blocked = []; ended = []; made = []; last = 0 }
 
@@ -166,7 +170,7 @@ pub record YardEvent : Type 0 where
 abbrev pub making : SetupParts → RunYard → ℕ → Facts → Option YardEvent
 making setup y now t =
     where_true (not (list_any (λ n. n == t.name) y.made) && nat_lt (live_of_run y) setup.threads)
-        (record { answer = answers.Yes; thread = Some t; yard = record y { made = y.made ++ t.name ∷ []; last = now } })
+    (record { answer = answers.Yes; thread = Some t; yard = record y { made = y.made ++ t.name ∷ []; last = now } })
 
 -- a thread goes to sleep for a span
 abbrev pub sleeping : RunYard → ℕ → Facts → ℕ → YardEvent
@@ -180,7 +184,7 @@ sleeping y now t span = record {
 abbrev pub waking : RunYard → ℕ → ℕ → DueSleeper → Option YardEvent
 waking y now name w =
     where_true ((name == w.facts.name) && nat_le w.due now)
-        (record { answer = answers.Yes; thread = Some (rested (now - w.since) w.facts); yard = record y { blocked = others_blocked y; last = now } })
+    (record { answer = answers.Yes; thread = Some (rested (now - w.since) w.facts); yard = record y { blocked = others_blocked y; last = now } })
 
 -- a thread ends
 abbrev pub ending : RunYard → ℕ → Facts → YardEvent
@@ -190,7 +194,7 @@ ending y now t = record { answer = answers.Yes; thread = Some t; yard = record y
 abbrev pub counting : RunYard → ℕ → Option YardEvent
 counting y now =
     where_true (not (list_any (λ (w : DueSleeper). nat_le w.due now) y.blocked))
-        (record { answer = answers.Left (length y.blocked); thread = None; yard = record y { last = now } })
+    (record { answer = answers.Left (length y.blocked); thread = None; yard = record y { last = now } })
 
 -- what a line comes to in the yard, by its act: none where it has no place there, or asks for something that isn't so
 abbrev pub yard_event_by : SetupParts → RunYard → Line → Act → Option YardEvent
@@ -203,6 +207,7 @@ yard_event_by setup y l acts.End = option_map (ending y (moment_of l)) l.entry.t
 yard_event_by setup y l acts.Blocked = counting y (moment_of l)
 yard_event_by setup y l _ = None
 
+-- what a line comes to in the yard of a run
 abbrev pub yard_event : SetupParts → RunYard → Line → Option YardEvent
 yard_event setup y l = yard_event_by setup y l (act_of l)
 

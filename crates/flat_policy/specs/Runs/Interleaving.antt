@@ -7,7 +7,7 @@ use Rattle.flat_policy.specs.Policy.Machine.{Site, at_home, site_of, spot_from}
 use Rattle.flat_policy.specs.Runs.Histories.{act_of, actor_of}
 use Rattle.sched_base.specs.declared.Spot.TheVariants as spots
 
--- whether a line happens at its actor's home: a select, a pull or a refresh
+-- whether a site is its actor's home: that of a select, a pull or a refresh
 abbrev pub is_at_home : Site → Bool
 is_at_home at_home = true
 is_at_home _ = false
@@ -16,11 +16,12 @@ is_at_home _ = false
 abbrev pub is_home_journal : ℕ → List Line → Bool
 is_home_journal a ls = list_any (λ (l : Line). is_at_home (site_of (act_of l)) && (actor_of l == a)) ls
 
--- the first cluster whose journal holds such a line of an actor; cluster 0 where none does
+-- the first of some journals that holds such a line of an actor, with the clusters numbered from c on; 0 where none does
 abbrev pub home_from : ℕ → ℕ → List (List Line) → ℕ
 home_from a c [] = 0
 home_from a c (j ∷ js) = if is_home_journal a j then c else home_from a (c + 1) js
 
+-- the first cluster whose journal holds such a line of an actor; cluster 0 where none does
 abbrev pub home_by_journals : List (List Line) → ℕ → ℕ
 home_by_journals clusters a = home_from a 0 clusters
 
@@ -28,28 +29,31 @@ home_by_journals clusters a = home_from a 0 clusters
 abbrev pub spot_by_journals : List (List Line) → Line → Option Spot
 spot_by_journals clusters l = spot_from (home_by_journals clusters (actor_of l)) (site_of (act_of l))
 
--- whether a spot is a cluster, or the yard
-abbrev pub is_cluster : ℕ → Option Spot → Bool
-is_cluster c None = false
-is_cluster c (Some (spots.Cluster d)) = d == c
-is_cluster c (Some spots.Yard) = false
+-- whether a spot is a cluster
+abbrev pub is_spot_of : ℕ → Option Spot → Bool
+is_spot_of c None = false
+is_spot_of c (Some (spots.Cluster d)) = d == c
+is_spot_of c (Some spots.Yard) = false
 
+-- whether a spot is the yard
 abbrev pub is_yard : Option Spot → Bool
 is_yard None = false
 is_yard (Some (spots.Cluster d)) = false
 is_yard (Some spots.Yard) = true
 
--- lines restricted to a cluster, and to the yard, where each line has a spot or none
+-- lines restricted to a cluster, where each line has a spot or none
 abbrev pub lines_at : (Line → Option Spot) → ℕ → List Line → List Line
-lines_at spot c ls = filter (λ (l : Line). is_cluster c (spot l)) ls
+lines_at spot c ls = filter (λ (l : Line). is_spot_of c (spot l)) ls
 
+-- lines restricted to the yard
 abbrev pub yard_lines : (Line → Option Spot) → List Line → List Line
 yard_lines spot ls = filter (λ (l : Line). is_yard (spot l)) ls
 
--- the same by the journals of the clusters
+-- lines restricted to a cluster, by the journals of the clusters
 abbrev pub lines_at_cluster : List (List Line) → ℕ → List Line → List Line
 lines_at_cluster clusters c ls = lines_at (spot_by_journals clusters) c ls
 
+-- lines restricted to the yard, by the journals of the clusters
 abbrev pub lines_in_yard : List (List Line) → List Line → List Line
 lines_in_yard clusters ls = yard_lines (spot_by_journals clusters) ls
 
@@ -72,8 +76,7 @@ abbrev pub EachLine : (Line → Type 0) → List Line → Type 0
 EachLine P [] = ⊤
 EachLine P (l ∷ ls) = P l × EachLine P ls
 
--- history is an interleaving of the journals of the clusters, that of the yard, and the logs of the actors:
--- restricted to each spot it is that journal, and restricted to each actor that log
+-- history is an interleaving of journals and logs: restricted to each spot it is that journal, and restricted to each actor that log
 pub record Interleaves (clusters : List (List Line)) (yard : List Line) (logs : List (List Line)) (history : List Line) : Type 0 where
   pub at_clusters : (c : ℕ) → c < length clusters → lines_at_cluster clusters c history ≡ slice_index_or clusters c []
   pub in_yard : lines_in_yard clusters history ≡ yard

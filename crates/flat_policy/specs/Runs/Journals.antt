@@ -15,6 +15,10 @@ empty_journal = record { lines = []; free = 0 }
 abbrev pub pushed : Line → JournalParts → JournalParts
 pushed l j = record { lines = j.lines ++ l ∷ []; free = j.free - 1 }
 
--- length and free room together stay below 2^40
+-- the first number of lines that no journal reaches with its free room; no machine's memory holds so many
+abbrev pub journal_limit : ℕ
+journal_limit = 2 ^ 40
+
+-- length and free room together stay below that
 abbrev pub IsJournal : JournalParts → Type 0
-IsJournal j = length j.lines + j.free < 2 ^ 40
+IsJournal j = length j.lines + j.free < journal_limit

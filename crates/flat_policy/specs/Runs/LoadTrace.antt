@@ -30,10 +30,11 @@ load_setup = record {
   version = 1;
 }
 
--- the state that a draw makes of the one before, and the number that it gives
+-- the state that a draw makes of the one before
 abbrev pub next_draw : ℕ → ℕ
 next_draw x = (x * 6364136223846793005 + 1442695040888963407) % 2 ^ 64
 
+-- the number that a state of the draw gives
 abbrev pub drawn : ℕ → ℕ
 drawn x = x / 2 ^ 33
 
@@ -51,6 +52,7 @@ pub record Tally : Type 0 where
   pub ends : ℕ
   pub refreshes : ℕ
 
+-- no step yet
 abbrev pub no_tally : Tally
 no_tally = record { makes = 0; enters = 0; selects = 0; selected = 0; offers = 0; offered = 0; rans = 0; sleeps = 0; wakes = 0; ends = 0; refreshes = 0 }
 
@@ -92,16 +94,17 @@ bucket_at_index i = slice_index_or all_buckets i Bg
 abbrev pub load_make : ℕ → ℕ → Act
 load_make i q = acts.Make i ((q / 8) % 8) (bucket_at_index ((q / 64) % 6)) (20 + (q / 384) % 44) None
 
--- the step of an actor with an empty hand: the first rule that holds
-abbrev pub free_wake : Option ℕ → ℕ → ℕ → Act
-free_wake (Some name) k other = acts.Wake name
-free_wake None k other = acts.Select
+-- waking the name that sleeps
+abbrev pub free_wake : Option ℕ → Act
+free_wake (Some name) = acts.Wake name
+free_wake None = acts.Select
 
+-- the step of an actor with an empty hand: the first rule that holds
 abbrev pub free_act : ℕ → ℕ → ℕ → ℕ → Option ℕ → Act
 free_act i q live other kept =
     if (live == 0) || (nat_lt (q % 8) 2 && nat_lt live 256) then load_make i q
     else (if q % 8 == 2 then acts.Refresh
-    else (if (q % 8 == 3) && is_some kept then free_wake kept q other
+    else (if (q % 8 == 3) && is_some kept then free_wake kept
     else (if q % 8 == 4 then acts.Offer other else acts.Select)))
 
 -- the step of an actor that holds a thread
@@ -115,6 +118,7 @@ busy_act q t kept =
 abbrev pub other_cluster : ℕ → ℕ
 other_cluster c = 1 - c
 
+-- an actor's step, by its hand
 abbrev pub load_act : LoadState → ℕ → ℕ → ℕ → Option Facts → Act
 load_act st i actor q None = free_act i q (live_count st.state.yard) (other_cluster (home_of load_setup actor)) st.kept
 load_act st i actor q (Some t) = busy_act q t st.kept
@@ -125,7 +129,7 @@ kept_after kept acts.Sleep (Some t) = Some t.name
 kept_after kept (acts.Wake name) thread = None
 kept_after kept act thread = kept
 
--- the load after its step number i
+-- the load after a step, with the draw's new state
 abbrev pub load_taken : LoadState → ℕ → Step → LoadState
 load_taken st x step = record {
   draw = x;
@@ -134,7 +138,7 @@ load_taken st x step = record {
   tally = tallied st.tally step.act (reply load_setup st.state step).answer;
 }
 
--- the step number i of the load, by its draw
+-- the step number i of the load, by the number drawn for it
 abbrev pub step_by_draw : LoadState → ℕ → ℕ → Step
 step_by_draw st i r = record {
   moment = i * 50;
@@ -142,9 +146,11 @@ step_by_draw st i r = record {
   act = load_act st i (r % 6) (r / 6) (hand_at st.state (r % 6)).thread;
 }
 
+-- the step number i of the load
 abbrev pub step_of_load : LoadState → ℕ → Step
 step_of_load st i = step_by_draw st i (drawn (next_draw st.draw))
 
+-- the load with one step more
 abbrev pub load_step : LoadState → ℕ → LoadState
 load_step st i = load_taken st (next_draw st.draw) (step_of_load st i)
 
@@ -157,13 +163,15 @@ load_after seed (suc n) = load_step (load_after seed n) n
 abbrev pub queued_count : MachineState → ℕ
 queued_count g = sum_by (λ (s : Flat). length s.entries) g.flats
 
--- the summary, line by line
+-- a line of the summary: words and a number
 abbrev pub summary_line : List ℕ → ℕ → List ℕ
 summary_line words n = words ++ decimal n ++ newline
 
+-- a line of the summary: words, and a number of another
 abbrev pub share_line : List ℕ → ℕ → ℕ → List ℕ
 share_line words n of = words ++ decimal n ++ codes " of " ++ decimal of ++ newline
 
+-- the summary of so many steps
 abbrev pub summary : ℕ → ℕ → LoadState → List ℕ
 summary seed n st =
     codes "load " ++ decimal seed ++ codes " steps " ++ decimal n ++ newline

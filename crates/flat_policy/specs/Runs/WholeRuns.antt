@@ -26,8 +26,7 @@ pub record EndsAmong (ls : List Line) (p : Program) : Type 0 where
   pub ends : act_of line ≡ acts.End
   pub finished : HasFinished p line.entry.thread
 
--- a list of lines is a whole run: its entries are a history of the machine, its lines at each cluster and in the yard are histories of
--- those places (which alone binds how long threads sleep), those of each actor follow the worker rule, and every program ends
+-- lines are a whole run: a history of the machine, of each place (which alone binds how long threads sleep) and of each actor, where every program ends
 pub record IsWholeRun (run : RunParts) (history : List Line) (end : MachineState) (yard : RunYard) : Type 0 where
   pub machine : GRun run.setup (entries_of history) end
   pub clusters : (c : ℕ) → c < cluster_count run.setup → CRun run.setup c (lines_at (spot_by_setup run.setup) c history) (flat_at end c)

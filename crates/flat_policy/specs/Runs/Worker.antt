@@ -122,9 +122,11 @@ abbrev pub ChargesAt : SetupParts → ℕ → Facts → ℕ → Option Stage →
 ChargesAt setup c t clock None ls = ⊥
 ChargesAt setup c t clock (Some s) ls = ChargesStage setup c t clock s ls
 
+-- the stage that a thread is in, of the program of its name
 abbrev pub stage_of : List Program → Facts → Option Stage
 stage_of ps t = option_and_then (λ (p : Program). stage_at p t.work) (program_of ps t.name)
 
+-- the charge of a thread, of some programs
 abbrev pub ChargesThread : RunParts → ℕ → Facts → ℕ → List Line → Type 0
 ChargesThread run c t clock ls = ChargesAt run.setup c t clock (stage_of run.programs t) ls
 
@@ -133,14 +135,16 @@ abbrev pub PlacesThread : SetupParts → List Line → Option Facts → Type 0
 PlacesThread setup ls None = ⊥
 PlacesThread setup ls (Some t) = Placing setup t ls
 
--- the ending of a turn that got no thread: a wake and a placing, or that none is blocked
+-- the first ending of a turn that got no thread: a wake and a placing
 abbrev pub WakesAndPlaces : SetupParts → List Line → Type 0
 WakesAndPlaces setup [] = ⊥
 WakesAndPlaces setup (l ∷ ls) = (name : ℕ) × Does (acts.Wake name) l × PlacesThread setup ls l.entry.thread
 
+-- the other: that none is blocked
 abbrev pub IsIdleEnd : List Line → Type 0
 IsIdleEnd ls = (l : Line) × (ls ≡ l ∷ []) × Answered acts.Blocked (answers.Left 0) l
 
+-- the ending of a turn that got no thread: either of the two
 abbrev pub EndsWithout : SetupParts → List Line → Type 0
 EndsWithout setup ls = WakesAndPlaces setup ls ⊎ IsIdleEnd ls
 
@@ -170,12 +174,13 @@ AfterNone run c ls _ = ⊥
 abbrev pub SelectsAndGoesOn : RunParts → ℕ → Line → List Line → Type 0
 SelectsAndGoesOn run c l ls = Does acts.Select l × ChargesOr run c l ls (AfterNone run c ls l.entry.answer) l.entry.thread
 
--- the numbered steps of a turn: a wake and a placing; or that no thread is due, a select, and what follows
+-- that no thread is due, a select, and what follows
 abbrev pub SelectsAfterAsking : RunParts → ℕ → List Line → Type 0
 SelectsAfterAsking run c [] = ⊥
 SelectsAfterAsking run c (l ∷ []) = ⊥
 SelectsAfterAsking run c (l ∷ m ∷ ls) = Does acts.Blocked l × SelectsAndGoesOn run c m ls
 
+-- the numbered steps of a turn: a wake and a placing; or that no thread is due, a select, and what follows
 abbrev pub TurnSteps : RunParts → ℕ → List Line → Type 0
 TurnSteps run c ls = WakesAndPlaces run.setup ls ⊎ SelectsAfterAsking run c ls
 
@@ -245,16 +250,18 @@ abbrev pub OpeningOf : RunParts → ℕ → List Line → Type 0
 OpeningOf run zero ls = Opening run run.programs ls
 OpeningOf run (suc a) ls = ls ≡ []
 
--- whether the last off or on of some lines is an off
+-- whether a cluster is off after an act, where it was so before
 abbrev pub off_after : Bool → Act → Bool
 off_after so (acts.Off at) = true
 off_after so (acts.On at) = false
 off_after so _ = so
 
+-- whether a cluster is off after some lines, where it was so before
 abbrev pub ends_off_from : Bool → List Line → Bool
 ends_off_from so [] = so
 ends_off_from so (l ∷ ls) = ends_off_from (off_after so (act_of l)) ls
 
+-- whether the last off or on of some lines is an off
 abbrev pub ends_off : List Line → Bool
 ends_off ls = ends_off_from false ls
 

@@ -1,6 +1,6 @@
 -- Answers as text.
-use Rattle.std.specs.Prelude.{Bool, List, Ok, [], codes, decimal, ℕ, ◌∷◌}
-use Rattle.sched_base.specs.Limits.{most_base}
+use Rattle.std.specs.Prelude.{Bool, List, Ok, [], codes, decimal, ℕ, ◌-◌, ◌∷◌}
+use Rattle.sched_base.specs.Limits.{clusters_of_lines, most_base}
 use Rattle.sched_base.specs.declared.Answer.{Answer}
 use Rattle.sched_base.specs.declared.Place.{Place}
 use Rattle.flat_policy.specs.Texts.Pieces.{Reading, Worded, actor_at, cluster_at, followed_by, made_of, most_of_32, most_of_64, next_piece, number_within, same_text, spaced, word_among, worded}
@@ -45,23 +45,27 @@ answer_pieces (answers.LookFirst c) = refused (codes "LookFirst" ∷ decimal c �
 abbrev pub answer_text : Answer → List ℕ
 answer_text a = spaced (answer_pieces a)
 
--- what stands after a word of a place, of a refusal and of an answer
+-- a place, read from the pieces after its word
 abbrev pub PlaceReading : Type 0
 PlaceReading = List (List ℕ) → Reading Place
 
+-- an answer, read from the pieces after its word
 abbrev pub AnswerReading : Type 0
 AnswerReading = List (List ℕ) → Reading Answer
 
--- the words of the places
+-- a queue, from its cluster on
 abbrev pub queue_at : PlaceReading
 queue_at ps = made_of (λ c. places.Queue c) (cluster_at ps)
 
+-- a hand, from its actor on
 abbrev pub hand_at_actor : PlaceReading
 hand_at_actor ps = made_of (λ a. places.Hand a) (actor_at ps)
 
+-- a place that is its word alone
 abbrev pub lone_place : Place → PlaceReading
 lone_place place ps = Ok (place, ps)
 
+-- the words of the places
 abbrev pub place_words : List (Worded PlaceReading)
 place_words =
     worded (codes "q") queue_at
@@ -75,13 +79,15 @@ place_words =
 abbrev pub place_at : List (List ℕ) → Reading Place
 place_at ps = followed_by (next_piece (word_among place_words) ps) (λ arguments rest. arguments rest)
 
--- answers with one number, or none
+-- an answer that is its word alone
 abbrev pub lone_answer : Answer → AnswerReading
 lone_answer answer ps = Ok (answer, ps)
 
+-- an answer with one number of at most so much
 abbrev pub counted : (ℕ → Answer) → ℕ → AnswerReading
 counted of most ps = made_of of (next_piece (number_within most) ps)
 
+-- an answer with a place
 abbrev pub placed : (Place → Answer) → AnswerReading
 placed of ps = made_of of (place_at ps)
 
@@ -96,9 +102,10 @@ refusal_words =
     ∷ worded (codes "NotQueued") (placed (λ p. answers.NotQueued p))
     ∷ worded (codes "OwnCluster") (lone_answer answers.OwnCluster)
     ∷ worded (codes "NotAllowed") (lone_answer answers.NotAllowed)
-    ∷ worded (codes "LookFirst") (counted (λ c. answers.LookFirst c) 15)
+    ∷ worded (codes "LookFirst") (counted (λ c. answers.LookFirst c) (clusters_of_lines - 1))
     ∷ []
 
+-- a refusal, from its word on
 abbrev pub refusal_at : AnswerReading
 refusal_at ps = followed_by (next_piece (word_among refusal_words) ps) (λ arguments rest. arguments rest)
 
@@ -111,7 +118,7 @@ answer_words =
     ∷ worded (codes "-") (lone_answer answers.Empty)
     ∷ worded (codes "off") (lone_answer answers.Off)
     ∷ worded (codes "load") (counted (λ l. answers.Load l) most_of_32)
-    ∷ worded (codes "to") (counted (λ c. answers.To c) 15)
+    ∷ worded (codes "to") (counted (λ c. answers.To c) (clusters_of_lines - 1))
     ∷ worded (codes "new") (counted (λ n. answers.New n) most_of_32)
     ∷ worded (codes "left") (counted (λ n. answers.Left n) most_of_32)
     ∷ worded (codes "work") (counted (λ w. answers.Work w) most_of_64)
@@ -122,7 +129,7 @@ answer_words =
 abbrev pub answer_at : List (List ℕ) → Reading Answer
 answer_at ps = followed_by (next_piece (word_among answer_words) ps) (λ arguments rest. arguments rest)
 
--- a place and an answer as a kind with its numbers, so that two are the same where these are
+-- a place as a kind with its numbers, so that two are the same where these are
 abbrev pub place_key : Place → List ℕ
 place_key (places.Queue c) = 0 ∷ c ∷ []
 place_key (places.Hand a) = 1 ∷ a ∷ []
@@ -130,6 +137,7 @@ place_key places.Blocked = 2 ∷ []
 place_key places.Ended = 3 ∷ []
 place_key places.Nowhere = 4 ∷ []
 
+-- an answer as a kind with its numbers, so that two are the same where these are
 abbrev pub answer_key : Answer → List ℕ
 answer_key answers.Yes = 0 ∷ []
 answer_key (answers.Pri p) = 1 ∷ p ∷ []

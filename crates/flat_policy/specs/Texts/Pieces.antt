@@ -1,6 +1,7 @@
 -- Lines as pieces between single spaces, and numerals. A fault is the first one from the left.
 use Rattle.std.specs.List.{join_with_byte, list_all}
 use Rattle.std.specs.Prelude.{Bool, Err, List, None, Ok, Option, Result, Some, [], codes, decimal, false, if◌then◌else◌, map, nat_le, not, true, ℕ, ◌&&◌, ◌*◌, ◌+◌, ◌-◌, ◌==◌, ◌^◌, ◌∷◌}
+use Rattle.sched_base.specs.Limits.{clusters_of_lines, moment_limit, most_actors, most_base, most_groups}
 use Rattle.sched_base.specs.declared.Bucket.{Bucket}
 use Rattle.sched_base.specs.declared.Bucket.TheVariants.{Bg, Df, Fg, Ini, Ui, Ut}
 use Rattle.flat_policy.specs.declared.texts.LineFault.{LineFault}
@@ -28,10 +29,11 @@ same_text [] (c ∷ cs) = false
 same_text (b ∷ bs) [] = false
 same_text (b ∷ bs) (c ∷ cs) = (b == c) && same_text bs cs
 
--- whether a byte is a digit, and its value
+-- whether a byte is a digit
 abbrev pub is_digit : ℕ → Bool
 is_digit b = nat_le 48 b && nat_le b 57
 
+-- the value of a digit
 abbrev pub digit_value : ℕ → ℕ
 digit_value b = b - 48
 
@@ -41,11 +43,12 @@ is_numeral [] = false
 is_numeral (b ∷ []) = is_digit b
 is_numeral (b ∷ c ∷ bs) = (is_digit b && not (b == 48)) && list_all is_digit (c ∷ bs)
 
--- the number that some digits write
+-- the number that some digits write behind those of another
 abbrev pub number_after : ℕ → List ℕ → ℕ
 number_after n [] = n
 number_after n (b ∷ bs) = number_after (n * 10 + digit_value b) bs
 
+-- the number that a numeral writes
 abbrev pub numeral_value : List ℕ → ℕ
 numeral_value p = number_after 0 p
 
@@ -87,6 +90,7 @@ pub record Worded (A : Type 0) : Type 0 where
   pub word : List ℕ
   pub value : A
 
+-- a word and a value, put together
 abbrev pub worded : {A : Type 0} → List ℕ → A → Worded A
 worded word value = record { word = word; value = value }
 
@@ -95,51 +99,61 @@ abbrev pub value_of_word : {A : Type 0} → List (Worded A) → List ℕ → Opt
 value_of_word [] p = None
 value_of_word (w ∷ ws) p = if same_text w.word p then Some w.value else value_of_word ws p
 
--- a piece as one of some words
+-- a value, or the fault that there is none
 abbrev pub or_word_fault : {A : Type 0} → Option A → Result A LineFault
 or_word_fault None = Err line_faults.Word
 or_word_fault (Some x) = Ok x
 
+-- a piece as one of some words
 abbrev pub word_among : {A : Type 0} → List (Worded A) → List ℕ → Result A LineFault
 word_among ws p = or_word_fault (value_of_word ws p)
 
--- the ranges of numbers in lines: names, groups, bases, clusters, spans, moments, actors, work
+-- the greatest number of 32 bits
 abbrev pub most_of_32 : ℕ
 most_of_32 = 2 ^ 32 - 1
 
+-- the greatest number of 64 bits
 abbrev pub most_of_64 : ℕ
 most_of_64 = 2 ^ 64 - 1
 
+-- the next piece as a name
 abbrev pub name_at : List (List ℕ) → Reading ℕ
 name_at ps = next_piece (number_within most_of_32) ps
 
+-- the next piece as a cluster
 abbrev pub cluster_at : List (List ℕ) → Reading ℕ
-cluster_at ps = next_piece (number_within 15) ps
+cluster_at ps = next_piece (number_within (clusters_of_lines - 1)) ps
 
+-- the next piece as a group
 abbrev pub group_at : List (List ℕ) → Reading ℕ
-group_at ps = next_piece (number_within 63) ps
+group_at ps = next_piece (number_within (most_groups - 1)) ps
 
+-- the next piece as a base
 abbrev pub base_at : List (List ℕ) → Reading ℕ
-base_at ps = next_piece (number_within 127) ps
+base_at ps = next_piece (number_within most_base) ps
 
+-- the next piece as a moment
 abbrev pub moment_at : List (List ℕ) → Reading ℕ
-moment_at ps = next_piece (number_within (2 ^ 40 - 1)) ps
+moment_at ps = next_piece (number_within (moment_limit - 1)) ps
 
+-- the next piece as an actor
 abbrev pub actor_at : List (List ℕ) → Reading ℕ
-actor_at ps = next_piece (number_within 15) ps
+actor_at ps = next_piece (number_within (most_actors - 1)) ps
 
--- a cluster that a thread is bound to, or `-`
+-- a piece as a cluster that a thread is bound to, or as `-`
 abbrev pub bound_within : List ℕ → Result (Option ℕ) LineFault
-bound_within p = if same_text p (codes "-") then Ok None else and_then (number_within 15 p) (λ c. Ok (Some c))
+bound_within p = if same_text p (codes "-") then Ok None else and_then (number_within (clusters_of_lines - 1) p) (λ c. Ok (Some c))
 
+-- the next piece as a cluster that a thread is bound to, or as `-`
 abbrev pub bound_at : List (List ℕ) → Reading (Option ℕ)
 bound_at ps = next_piece bound_within ps
 
+-- the piece of a cluster that a thread is bound to, or of none
 abbrev pub bound_piece : Option ℕ → List ℕ
 bound_piece None = codes "-"
 bound_piece (Some c) = decimal c
 
--- buckets
+-- the word of a bucket
 abbrev pub bucket_piece : Bucket → List ℕ
 bucket_piece Ui = codes "UI"
 bucket_piece Fg = codes "FG"
@@ -148,19 +162,23 @@ bucket_piece Df = codes "DF"
 bucket_piece Ut = codes "UT"
 bucket_piece Bg = codes "BG"
 
+-- the words of the buckets
 abbrev pub bucket_words : List (Worded Bucket)
 bucket_words = map (λ b. worded (bucket_piece b) b) all_buckets
 
+-- the next piece as a bucket
 abbrev pub bucket_at : List (List ℕ) → Reading Bucket
 bucket_at ps = next_piece (word_among bucket_words) ps
 
--- the end of a queue that is entered: true for the head
+-- the word of the end of a queue that is entered: true for the head
 abbrev pub end_piece : Bool → List ℕ
 end_piece true = codes "head"
 end_piece false = codes "tail"
 
+-- the words of the two ends
 abbrev pub end_words : List (Worded Bool)
 end_words = worded (end_piece true) true ∷ worded (end_piece false) false ∷ []
 
+-- the next piece as an end of a queue
 abbrev pub end_at : List (List ℕ) → Reading Bool
 end_at ps = next_piece (word_among end_words) ps

@@ -23,12 +23,13 @@ json_of line = if is_utf8 line then read line else None
 abbrev pub whole_number : Data → Option ℕ
 whole_number d = option_and_then as_u64 (as_number d)
 
--- every item of an array, read
+-- one more item that was read, before those read after it
 abbrev pub cons_if : {A : Type 0} → Option A → Option (List A) → Option (List A)
 cons_if None xs = None
 cons_if (Some x) None = None
 cons_if (Some x) (Some xs) = Some (x ∷ xs)
 
+-- every item of an array, read
 abbrev pub each_item : {A : Type 0} → (Data → Option A) → Items → Option (List A)
 each_item of no_items = Some []
 each_item of (item d ds) = cons_if (of d) (each_item of ds)
@@ -37,10 +38,11 @@ each_item of (item d ds) = cons_if (of d) (each_item of ds)
 abbrev pub array_of : {A : Type 0} → (Data → Option A) → Data → Option (List A)
 array_of of d = option_and_then (each_item of) (as_array d)
 
--- such an array of a stated length
+-- a list, where it has a stated length
 abbrev pub with_length : {A : Type 0} → ℕ → List A → Option (List A)
 with_length n xs = if length xs == n then Some xs else None
 
+-- an array of values of one shape and of a stated length
 abbrev pub array_of_length : {A : Type 0} → ℕ → (Data → Option A) → Data → Option (List A)
 array_of_length n of d = option_and_then (with_length n) (array_of of d)
 
@@ -52,10 +54,11 @@ rows_of n d = array_of (array_of_length n whole_number) d
 abbrev pub times_rows : Data → Option (List (List (List ℕ)))
 times_rows d = array_of (array_of_length 3 (array_of_length 6 whole_number)) d
 
--- whether an object's keys are all among the six
+-- whether a key is one of the six
 abbrev pub is_key : List ℕ → Bool
 is_key k = list_any (same_text k) (codes "clusters" ∷ codes "edges" ∷ codes "groups" ∷ codes "threads" ∷ codes "times" ∷ codes "version" ∷ [])
 
+-- whether an object's keys are all among the six
 abbrev pub only_keys : Members → Bool
 only_keys no_members = true
 only_keys (member k d ms) = is_key k && only_keys ms
@@ -74,27 +77,30 @@ abbrev pub unless_fault : {A B : Type 0} → Result A SetupFault → (A → Resu
 unless_fault (Ok x) f = f x
 unless_fault (Err e) f = Err e
 
--- a field with its shape, or the fault that it hasn't
+-- a field's value, or the fault that it hasn't its shape
 abbrev pub shaped : {A : Type 0} → Field → Option A → Result A SetupFault
 shaped field None = Err (setup_faults.Shape field)
 shaped field (Some x) = Ok x
 
+-- the field under a key of an object, with its shape
 abbrev pub field_of : {A : Type 0} → Field → List ℕ → (Data → Option A) → Members → Result A SetupFault
 field_of field key of ms = shaped field (option_and_then of (get_member key ms))
 
--- whether the value under `version` is the whole number 2
+-- whether a whole number that may be there is 2
 abbrev pub says_two : Option ℕ → Bool
 says_two None = false
 says_two (Some n) = n == 2
 
+-- whether the value under `version` is the whole number 2
 abbrev pub is_version_two : Members → Bool
 is_version_two ms = says_two (option_and_then whole_number (get_member (codes "version") ms))
 
--- `times` is wrong where version 2 lacks it or it hasn't its shape, and where another version has it
+-- a version other than 2 has no `times`
 abbrev pub times_of_other : Option Data → Result (Option (List (List (List ℕ)))) SetupFault
 times_of_other None = Ok None
 times_of_other (Some d) = Err (setup_faults.Shape fields.Times)
 
+-- `times` is wrong where version 2 lacks it or it hasn't its shape, and where another version has it
 abbrev pub times_field : Members → Result (Option (List (List (List ℕ)))) SetupFault
 times_field ms =
     if is_version_two ms
@@ -112,25 +118,29 @@ numbers_of ms =
     unless_fault (field_of fields.Version (codes "version") whole_number ms) (λ version.
     Ok (record { clusters = clusters; edges = edges; groups = groups; threads = threads; times = times; version = version })))))))
 
--- the setup of such numbers, or the first field out of its range
+-- a setup, unless a field is out of its range
 abbrev pub in_range : Option Field → SetupParts → Result SetupParts SetupFault
 in_range None parts = Ok parts
 in_range (Some field) parts = Err (setup_faults.Range field)
 
+-- the setup of such numbers, or the first field out of its range
 abbrev pub setup_of : SetupNumbers → Option (List (List (List ℕ))) → Result SetupParts SetupFault
 setup_of n None =
     in_range (first_out_of_range n.clusters n.edges n.groups n.threads n.version) (parts_of n.clusters n.edges n.groups n.threads)
 setup_of n (Some times) =
     in_range (first_out_of_range_timed n.clusters n.edges n.groups n.threads times) (parts_of_timed n.clusters n.edges n.groups n.threads times)
 
+-- the setup of an object, or its first fault
 abbrev pub setup_of_object : Members → Result SetupParts SetupFault
 setup_of_object ms =
     if only_keys ms then unless_fault (numbers_of ms) (λ n. setup_of n n.times) else Err (setup_faults.Shape fields.Whole)
 
+-- the setup of a value that may be an object, or its first fault
 abbrev pub setup_of_members : Option Members → Result SetupParts SetupFault
 setup_of_members None = Err (setup_faults.Shape fields.Whole)
 setup_of_members (Some ms) = setup_of_object ms
 
+-- the setup of a line that may be JSON, or its first fault
 abbrev pub setup_of_json : Option Data → Result SetupParts SetupFault
 setup_of_json None = Err setup_faults.NotJson
 setup_of_json (Some d) = setup_of_members (as_object d)
@@ -139,33 +149,40 @@ setup_of_json (Some d) = setup_of_members (as_object d)
 abbrev pub read_setup_text : List ℕ → Result SetupParts SetupFault
 read_setup_text line = setup_of_json (json_of line)
 
--- the canonical text: the keys in order, plain decimal numbers, no space
+-- texts between brackets, with commas between them
 abbrev pub bracketed : List (List ℕ) → List ℕ
 bracketed texts = codes "[" ++ join_with_byte 44 texts ++ codes "]"
 
+-- numbers between brackets: plain decimals, no space
 abbrev pub numbers_text : List ℕ → List ℕ
 numbers_text ns = bracketed (map decimal ns)
 
+-- a truth value as a number
 abbrev pub flag_number : Bool → ℕ
 flag_number true = 1
 flag_number false = 0
 
+-- the text of a cluster
 abbrev pub cluster_text : ClusterParts → List ℕ
 cluster_text c = numbers_text (c.cpus ∷ c.rate ∷ [])
 
+-- the text of an edge
 abbrev pub edge_text : EdgeSpec → List ℕ
 edge_text e = numbers_text (e.from ∷ e.to ∷ e.weight ∷ flag_number e.migrate ∷ e.steal ∷ [])
 
+-- the text of the times of a cluster
 abbrev pub cluster_times_text : List Times → List ℕ
 cluster_times_text ts = bracketed (
     numbers_text (map (λ (t : Times). t.wcel) ts)
     ∷ numbers_text (map (λ (t : Times). t.warp) ts)
     ∷ numbers_text (map (λ (t : Times). t.quantum) ts) ∷ [])
 
+-- the member of the times, which version 2 has and no other
 abbrev pub times_member : SetupParts → List ℕ
 times_member setup =
     if setup.version == 2 then codes ",\"times\":" ++ bracketed (map cluster_times_text setup.times) else []
 
+-- the canonical text of a setup: the keys in order, plain decimal numbers, no space
 abbrev pub setup_text : SetupParts → List ℕ
 setup_text setup =
     codes "{\"clusters\":" ++ bracketed (map cluster_text setup.clusters)

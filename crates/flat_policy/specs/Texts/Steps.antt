@@ -32,13 +32,15 @@ step_pieces s = decimal s.moment ∷ decimal s.actor ∷ act_pieces s.act
 abbrev pub step_text : Step → List ℕ
 step_text s = spaced (step_pieces s)
 
--- the arguments of each act, from the pieces after its word
+-- an act, read from the pieces after its word
 abbrev pub ArgumentReading : Type 0
 ArgumentReading = List (List ℕ) → Reading Act
 
+-- an act that is its word alone
 abbrev pub alone : Act → ArgumentReading
 alone act ps = Ok (act, ps)
 
+-- a make, from its name on
 abbrev pub make_at : ArgumentReading
 make_at ps =
     followed_by (name_at ps) (λ name ps1.
@@ -47,27 +49,35 @@ make_at ps =
     followed_by (base_at ps3) (λ base ps4.
     made_of (λ bound. acts.Make name group bucket base bound) (bound_at ps4)))))
 
+-- an enter, from its cluster on
 abbrev pub enter_at : ArgumentReading
 enter_at ps = followed_by (cluster_at ps) (λ c rest. made_of (λ head. acts.Enter c head) (end_at rest))
 
+-- an offer, from its cluster on
 abbrev pub offer_at : ArgumentReading
 offer_at ps = made_of (λ c. acts.Offer c) (cluster_at ps)
 
+-- a pull, from its name on
 abbrev pub pull_at : ArgumentReading
 pull_at ps = made_of (λ name. acts.Pull name) (name_at ps)
 
+-- a look, from its cluster on
 abbrev pub looks_at : ArgumentReading
 looks_at ps = made_of (λ c. acts.Look c) (cluster_at ps)
 
+-- a ran, from its span on
 abbrev pub ran_at : ArgumentReading
 ran_at ps = made_of (λ us. acts.Ran us) (next_piece (number_within most_of_32) ps)
 
+-- a wake, from its name on
 abbrev pub wake_at : ArgumentReading
 wake_at ps = made_of (λ name. acts.Wake name) (name_at ps)
 
+-- an off, from its cluster on
 abbrev pub off_at : ArgumentReading
 off_at ps = made_of (λ c. acts.Off c) (cluster_at ps)
 
+-- an on, from its cluster on
 abbrev pub on_at : ArgumentReading
 on_at ps = made_of (λ c. acts.On c) (cluster_at ps)
 

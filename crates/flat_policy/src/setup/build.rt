@@ -10,6 +10,7 @@ use crate::setup::lists::{cluster_sizes, edge_specs, group_rows, time_table};
 use crate::setup::ranges::{actors_of, first_out_of_range, first_out_of_range_timed};
 use crate::setup::{BuildError, Setup};
 use bucket_tables::version_one;
+use sched_base::limits::MOST_CLUSTERS;
 use std::alloc::{AllocError, Global};
 
 impl Setup {
@@ -32,7 +33,7 @@ impl Setup {
         if let Some(field) = first_out_of_range(clusters, edges, groups, threads, version) {
             return Err(BuildError::Range(field));
         }
-        let ordinary = [version_one(); 8];
+        let ordinary = [version_one(); MOST_CLUSTERS];
         let times = &ordinary[..clusters.len()];
         Ok(Setup::from_rows(alloc, clusters, edges, groups, threads, times, 1)?)
     }

@@ -4,8 +4,9 @@ ghost use Rattle.std.specs.Prelude.{◌≡◌, ◌≤◌, All, IfOk, length, map
 ghost use Rattle.flat_policy.specs.Policy.Ranges.{edge_of_row};
 ghost use Rattle.flat_policy.specs.Representation.SetupInside.{FitsEdge, FitsGroup, FitsSize, HasSixes, row_times, size_of_row, times_of_cluster};
 
-use crate::setup::{ClusterSize, EdgeSpec};
+use crate::setup::{ClusterSize, EdgeSpec, TIME_COLUMNS};
 use bucket_tables::{Table, each_bucket};
+use sched_base::limits::{BUCKET_COUNT, MOST_CLUSTERS};
 use std::alloc::{AllocError, Global};
 
 pub(super) fn cluster_sizes(
@@ -58,13 +59,13 @@ fn group_row(row: &[u64; 6]) -> [u8; 6]
 }
 
 /// The times of the clusters in a table, a row for each.
-pub(super) fn time_table(times: &[[[u64; 6]; 3]]) -> Table<8, 18>
-    requires { length times.now ≤ 8 }
+pub(super) fn time_table(times: &[[[u64; 6]; 3]]) -> Table<MOST_CLUSTERS, TIME_COLUMNS>
+    requires { length times.now ≤ MOST_CLUSTERS }
     ensures rows { map row_times (take (length times.now) result) ≡ map times_of_cluster times.now }
-    ensures len { length result ≡ 8 }
+    ensures len { length result ≡ MOST_CLUSTERS }
     ensures sixes { All HasSixes times.now }
 {
-    let mut table = Table::<8, 18>::filled(0);
+    let mut table = Table::<MOST_CLUSTERS, TIME_COLUMNS>::filled(0);
     for (c, rows) in times.iter().enumerate() {
         table.set_row(c, time_row(rows));
     }
@@ -72,18 +73,18 @@ pub(super) fn time_table(times: &[[[u64; 6]; 3]]) -> Table<8, 18>
 }
 
 /// One row of WCEL, WARP and QUANTUM, each by bucket index.
-fn time_row(rows: &[[u64; 6]]) -> [u64; 18]
+fn time_row(rows: &[[u64; 6]]) -> [u64; TIME_COLUMNS]
     requires { length rows.now ≡ 3 }
     ensures times { row_times result ≡ times_of_cluster rows.now }
     ensures sixes { HasSixes rows.now }
 {
     let (wcel, warp, quantum) = (rows[0], rows[1], rows[2]);
-    let mut row = [0; 18];
+    let mut row = [0; TIME_COLUMNS];
     each_bucket!(bucket => {
         let column = bucket.index() as usize;
         row[column] = wcel[column];
-        row[column + 6] = warp[column];
-        row[column + 12] = quantum[column];
+        row[column + BUCKET_COUNT] = warp[column];
+        row[column + 2 * BUCKET_COUNT] = quantum[column];
     });
     row
 }

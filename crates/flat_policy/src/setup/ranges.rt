@@ -5,6 +5,10 @@ ghost use Rattle.std.specs.List.{list_all, list_any};
 ghost use Rattle.flat_policy.specs.Policy.Ranges.{all_below, between, clusters_in_range, common_ranges, edges_in_range, ends_differ, first_out, first_out_of_range, first_out_of_range_timed, groups_in_range, is_cluster_row, is_edge_row, is_times_row, nth, same_ends, threads_in_range, times_in_range};
 
 use crate::setup::Field;
+use sched_base::limits::{
+    LEAST_QUANTUM, LEAST_RATE, MOST_ACTORS, MOST_CLUSTERS, MOST_EDGES, MOST_GROUPS, MOST_QUANTUM,
+    MOST_RATE, MOST_THREADS, MOST_WARP, MOST_WCEL, MOST_WEIGHT, STEAL_MASKS,
+};
 
 /// The first field out of range of a setup of version 1.
 pub(super) fn first_out_of_range(
@@ -57,7 +61,7 @@ fn first_common_fault(
     if !groups_in_range(count, groups) {
         return Some(Field::Groups);
     }
-    if !between(1, 4096, threads) {
+    if !between(1, MOST_THREADS as u64, threads) {
         return Some(Field::Threads);
     }
     None
@@ -80,7 +84,7 @@ fn all_below(n: u64, xs: &[u64]) -> bool
 fn is_cluster_row(row: &[u64; 2]) -> bool
     ensures { result ≡ is_cluster_row row.now }
 {
-    between(1, 16, row[0]) && between(100, 1000, row[1])
+    between(1, MOST_ACTORS as u64, row[0]) && between(LEAST_RATE as u64, MOST_RATE as u64, row[1])
 }
 
 fn are_cluster_rows(rows: &[[u64; 2]]) -> bool
@@ -92,12 +96,14 @@ fn are_cluster_rows(rows: &[[u64; 2]]) -> bool
 fn clusters_in_range(clusters: &[[u64; 2]]) -> bool
     ensures { result ≡ clusters_in_range clusters.now }
 {
-    between(1, 8, clusters.len() as u64) && are_cluster_rows(clusters) && actors_of(clusters) <= 16
+    between(1, MOST_CLUSTERS as u64, clusters.len() as u64)
+        && are_cluster_rows(clusters)
+        && actors_of(clusters) <= MOST_ACTORS as u64
 }
 
 /// How many processors the clusters have together.
 pub(super) fn actors_of(clusters: &[[u64; 2]]) -> u64
-    requires few { length clusters.now ≤ 8 }
+    requires few { length clusters.now ≤ MOST_CLUSTERS }
     requires each { list_all is_cluster_row clusters.now ≡ true }
     ensures { result ≡ sum_by (λ row. nth row 0) clusters.now }
 {
@@ -112,7 +118,12 @@ fn is_edge_row(count: u64, row: &[u64; 5]) -> bool
     ensures { result ≡ is_edge_row count row.now }
 {
     let [from, to, weight, migrate, steal] = *row;
-    from < count && to < count && from != to && weight <= 10_000_000 && migrate <= 1 && steal <= 63
+    from < count
+        && to < count
+        && from != to
+        && weight <= MOST_WEIGHT as u64
+        && migrate <= 1
+        && steal < STEAL_MASKS as u64
 }
 
 fn same_ends(x: &[u64; 5], y: &[u64; 5]) -> bool
@@ -134,7 +145,7 @@ fn has_ends_of(edge: &[u64; 5], edges: &[[u64; 5]]) -> bool
     edges.iter().any(|other| same_ends(edge, other))
 }
 
-/// Whether no pair of clusters has two edges. There are at most 56.
+/// Whether no pair of clusters has two edges.
 fn ends_differ(edges: &[[u64; 5]]) -> bool
     ensures { result ≡ ends_differ edges.now }
 {
@@ -149,13 +160,13 @@ fn ends_differ(edges: &[[u64; 5]]) -> bool
 fn edges_in_range(count: u64, edges: &[[u64; 5]]) -> bool
     ensures { result ≡ edges_in_range count edges.now }
 {
-    edges.len() <= 56 && are_edge_rows(count, edges) && ends_differ(edges)
+    edges.len() <= MOST_EDGES && are_edge_rows(count, edges) && ends_differ(edges)
 }
 
 fn groups_in_range(count: u64, groups: &[[u64; 6]]) -> bool
     ensures { result ≡ groups_in_range count groups.now }
 {
-    between(1, 64, groups.len() as u64) && are_groups(count, groups)
+    between(1, MOST_GROUPS as u64, groups.len() as u64) && are_groups(count, groups)
 }
 
 fn are_groups(count: u64, groups: &[[u64; 6]]) -> bool
@@ -182,9 +193,9 @@ fn is_times_row(rows: &[[u64; 6]; 3]) -> bool
     ensures { result ≡ is_times_row rows.now }
 {
     let [wcel, warp, quantum] = rows;
-    all_at_most(10_000_000, wcel)
-        && all_at_most(1_000_000, warp)
-        && all_between(1000, 100_000, quantum)
+    all_at_most(MOST_WCEL, wcel)
+        && all_at_most(MOST_WARP, warp)
+        && all_between(LEAST_QUANTUM, MOST_QUANTUM, quantum)
         && wcel[0] == 0
         && warp[0] == 0
 }

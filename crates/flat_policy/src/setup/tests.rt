@@ -2,6 +2,7 @@
 
 use super::*;
 use sched_base::Act;
+use sched_base::limits::MOST_EDGES;
 use std::test::Fail;
 
 const ONE: [[u64; 2]; 1] = [[1, 1000]];
@@ -20,6 +21,14 @@ const TIMES: [[u64; 6]; 3] = [
     [0, 0, 37500, 75000, 150000, 250000],
     [0, 0, 4000, 2000, 1000, 0],
     [10000, 10000, 8000, 6000, 4000, 2000],
+];
+
+const MOST: [[u64; 6]; 3] = [
+    [
+        0, 10_000_000, 10_000_000, 10_000_000, 10_000_000, 10_000_000,
+    ],
+    [0, 1_000_000, 1_000_000, 1_000_000, 1_000_000, 1_000_000],
+    [100_000; 6],
 ];
 
 type Case<'a> = (
@@ -111,26 +120,55 @@ fn times_out_of_range(rt: HostRuntime) {
     }
 }
 
-#[test]
-fn every_edge_between_eight_clusters(rt: HostRuntime) -> Result<(), Fail> {
-    let mut edges = Vec::with_capacity(rt.alloc(), 56)?;
-    for from in 0..8u64 {
-        for to in 0..8u64 {
+/// Every edge between eight clusters, each with its greatest numbers.
+fn every_edge(rt: HostRuntime) -> Result<Vec<[u64; 5]>, AllocError> {
+    let mut edges = Vec::with_capacity(rt.alloc(), MOST_EDGES)?;
+    for from in 0..8 {
+        for to in 0..8 {
             if from != to {
-                edges.push([from, to, 10_000_000, 0, 0])?;
+                edges.push([from, to, 10_000_000, 1, 63])?;
             }
         }
     }
-    let setup = Setup::build(rt.alloc(), &[[2, 100]; 8], &edges, &[[7; 6]; 64], 4096, 1)?;
-    assert_eq!(rt;
-        (
-            setup.clusters(),
-            setup.actors(),
-            setup.groups(),
-            setup.edge_count()
-        ),
-        (8, 16, 64, 56)
-    );
+    Ok(edges)
+}
+
+#[test]
+fn the_greatest_setups(rt: HostRuntime) -> Result<(), Fail> {
+    let (clusters, groups) = ([[2, 1000]; 8], [[7; 6]; 64]);
+    let edges = every_edge(rt)?;
+    let plain = Setup::build(rt.alloc(), &clusters, &edges, &groups, 4096, 1)?;
+    let timed = Setup::build_timed(rt.alloc(), &clusters, &edges, &groups, 4096, &[MOST; 8])?;
+    let (plain_copy, timed_copy) = (plain.copy()?, timed.copy()?);
+    let last = EdgeSpec {
+        from: 7,
+        to: 6,
+        weight: 10_000_000,
+        migrate: true,
+        steal: 63,
+    };
+    let cases = [
+        (&plain, 1, 250_000, 0, 2000),
+        (&plain_copy, 1, 250_000, 0, 2000),
+        (&timed, 2, 10_000_000, 1_000_000, 100_000),
+        (&timed_copy, 2, 10_000_000, 1_000_000, 100_000),
+    ];
+    for (setup, version, wcel, warp, quantum) in cases {
+        assert_eq!(rt; (setup.clusters(), setup.actors()), (8, 16));
+        assert_eq!(rt; (setup.groups(), setup.edge_count()), (64, 56));
+        assert_eq!(rt; (setup.threads(), setup.version()), (4096, version));
+        assert!(rt; 7 < setup.clusters() && 15 < setup.actors());
+        assert!(rt; 63 < setup.groups() && 55 < setup.edge_count());
+        assert_eq!(rt; (setup.cpus(7), setup.rate(7)), (2, 1000));
+        assert_eq!(rt; (setup.home(15), setup.prefer(63, Bucket::Bg)), (7, 7));
+        assert_eq!(rt; setup.edge_at(55), last);
+        let times = Times {
+            wcel,
+            warp,
+            quantum,
+        };
+        assert_eq!(rt; setup.cluster_times(7)[5], times);
+    }
     Ok(())
 }
 
