@@ -26,9 +26,10 @@ log_of setup mark said = map (marked mark) (replies setup (empty_machine setup) 
 abbrev pub state_of : SetupParts → List Said → MachineState
 state_of setup said = states_after setup (empty_machine setup) (steps_of said)
 
--- the lines of a history at a cluster, and in the yard
+-- the lines of a history at a cluster
 abbrev pub journal_of : SetupParts → ℕ → List Line → List Line
 journal_of setup c log = lines_at (spot_by_setup setup) c log
 
+-- its lines in the yard
 abbrev pub yard_journal_of : SetupParts → List Line → List Line
 yard_journal_of setup log = yard_lines (spot_by_setup setup) log

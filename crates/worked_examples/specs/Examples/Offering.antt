@@ -35,6 +35,7 @@ offering_said =
 abbrev pub offering_program : Program
 offering_program = record { name = 1; group = 0; bucket = Ut; base = 31; bound = None; spans = 1000 ∷ [] }
 
+-- one numbered turn, and no power
 abbrev pub offering_run : RunParts
 offering_run = record { setup = two_clusters; programs = offering_program ∷ []; powers = []; turns = 1 }
 
@@ -43,10 +44,11 @@ abbrev pub looks_for_ut : Act → Option ℕ
 looks_for_ut (acts.Look c) = Some 4
 looks_for_ut _ = None
 
--- the history, and the logs of the two actors
+-- the history
 abbrev pub offering_log : List Line
 offering_log = log_of two_clusters looks_for_ut offering_said
 
+-- the log of an actor
 abbrev pub offering_actor : ℕ → List Line
 offering_actor a = lines_of_actor a offering_log
 

@@ -56,10 +56,11 @@ sleeps_2000 _ = None
 abbrev pub one_log : List Line
 one_log = log_of one_cluster sleeps_2000 one_thread_said
 
--- its journals: its lines at the cluster, and in the yard
+-- its lines at the cluster
 abbrev pub one_journal : List Line
 one_journal = journal_of one_cluster 0 one_log
 
+-- its lines in the yard
 abbrev pub one_yard_journal : List Line
 one_yard_journal = yard_journal_of one_cluster one_log
 

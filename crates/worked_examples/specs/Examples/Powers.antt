@@ -29,13 +29,15 @@ power_said =
     ∷ row_line 5000 0 (acts.End) answers.Yes
     ∷ []
 
--- the program: 5000 units of work; the power: off in turn 0
+-- the program: 5000 units of work
 abbrev pub power_program : Program
 power_program = record { name = 1; group = 0; bucket = Fg; base = 31; bound = None; spans = 5000 ∷ [] }
 
+-- the power: off in turn 0
 abbrev pub off_in_turn_0 : PowerAt
 off_in_turn_0 = record { cluster = 0; on = false; turn = 0 }
 
+-- one numbered turn, and that power
 abbrev pub power_run : RunParts
 power_run = record { setup = one_cluster; programs = power_program ∷ []; powers = off_in_turn_0 ∷ []; turns = 1 }
 
@@ -43,6 +45,7 @@ power_run = record { setup = one_cluster; programs = power_program ∷ []; power
 abbrev pub no_marks : Act → Option ℕ
 no_marks act = None
 
+-- the history, which is the log of its actor
 abbrev pub power_log : List Line
 power_log = log_of one_cluster no_marks power_said
 

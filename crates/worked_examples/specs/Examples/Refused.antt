@@ -41,7 +41,7 @@ waking_turn = take 5 (drop 7 one_log)
 abbrev pub TakenIsPlaced : Type 0
 TakenIsPlaced = Turn one_run 0 1 waking_turn × (Turn one_run 0 1 (take 3 waking_turn) → ⊥)
 
--- its lines in the yard, with the wake at another moment
+-- its wake, at another moment
 abbrev pub waking_line : ℕ → Line
 waking_line moment = record {
   entry = record {
@@ -52,6 +52,7 @@ waking_line moment = record {
   mark = None;
 }
 
+-- its lines in the yard, with that wake
 abbrev pub yard_waking_at : ℕ → List Line
 yard_waking_at moment = slice_set one_yard_journal 4 (waking_line moment)
 
@@ -59,13 +60,15 @@ yard_waking_at moment = slice_set one_yard_journal 4 (waking_line moment)
 abbrev pub WakeIsDue : Type 0
 WakeIsDue = (yard_waking_at 7000 ≡ one_yard_journal) × ((end : RunYard) → YRun one_cluster (yard_waking_at 6999) end → ⊥)
 
--- the log with a thread of another name in its first enter
+-- a thread with another name
 abbrev pub named : ℕ → Facts → Facts
 named name t = record t { name = name }
 
+-- its first enter, with that thread
 abbrev pub entering_line : ℕ → Line
 entering_line name = record (one_line 2) { entry = record (one_line 2).entry { thread = option_map (named name) (one_line 2).entry.thread } }
 
+-- its log, with that enter
 abbrev pub log_entering : ℕ → List Line
 log_entering name = slice_set one_log 2 (entering_line name)
 

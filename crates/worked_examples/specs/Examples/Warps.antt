@@ -25,6 +25,7 @@ pub record ChosenAt : Type 0 where
   pub lane : Lane
   pub kind : Option Kind
 
+-- a choice as it was made at a moment
 abbrev pub chosen_at : ℕ → Choice → ChosenAt
 chosen_at now k = record { moment = now; lane = k.lane; kind = k.kind }
 
@@ -39,6 +40,7 @@ abbrev pub choices_of : SetupParts → ℕ → Flat → List Line → List Chose
 choices_of setup c s [] = []
 choices_of setup c s (l ∷ ls) = choice_of setup c s (window_event s l) ++ choices_of setup c (flat_after setup c s l) ls
 
+-- a choice by deadlines
 abbrev pub choice_at : ℕ → Lane → Kind → ChosenAt
 choice_at moment l kind = record { moment = moment; lane = l; kind = Some kind }
 

@@ -149,10 +149,11 @@ OffAlone = Replies one_cluster off_alone_lines
 abbrev pub step_at : ℕ → ℕ → Act → Step
 step_at moment actor act = record { moment = moment; actor = actor; act = act }
 
--- moments are raised to the last ones of actor and cluster; a refused step leaves these as they were
+-- four steps, two of which are handed in at a moment that is past
 abbrev pub moments_steps : List Step
 moments_steps = step_at 100 0 acts.Select ∷ step_at 200 0 acts.End ∷ step_at 50 0 acts.Select ∷ step_at 50 1 (acts.Offer 0) ∷ []
 
+-- moments are raised to the last ones of actor and cluster; a refused step leaves these as they were
 abbrev pub moments_lines : List Said
 moments_lines =
     row_line 100 0 (acts.Select) answers.Empty

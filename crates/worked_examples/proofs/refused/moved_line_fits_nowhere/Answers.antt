@@ -4,7 +4,7 @@ use Rattle.std.proofs.lemmas.Bool.{eq-eqb}
 use Rattle.sched_base.specs.declared.Act.TheVariants as acts
 use Rattle.flat_policy.specs.declared.journal.Line.{Line}
 use Rattle.flat_policy.specs.Runs.Histories.{act_of, actor_of}
-use Rattle.flat_policy.specs.Runs.Interleaving.{Interleaves, is_cluster, lines_at_cluster, lines_of_actor, spot_by_journals}
+use Rattle.flat_policy.specs.Runs.Interleaving.{Interleaves, is_spot_of, lines_at_cluster, lines_of_actor, spot_by_journals}
 use Rattle.worked_examples.proofs.Differ.{acts_differ, first_kept}
 use Rattle.worked_examples.specs.Examples.Merging.{crossed_journals, offer_to_0, offer_to_1, select_of_0, select_of_1, two_logs}
 use Rattle.worked_examples.specs.Examples.Refused.{journals_by_1}
@@ -16,7 +16,7 @@ first_of_log a x rest y ys by is = first_kept (λ (l : Line). actor_of l == a) x
 
 -- the first line of a cluster
 abbrev stands : ℕ → Line → Bool
-stands c l = is_cluster c (spot_by_journals crossed_journals l)
+stands c l = is_spot_of c (spot_by_journals crossed_journals l)
 
 first_of_journal : (c : ℕ) (x : Line) (rest : List Line) (y : Line) (ys : List Line) → stands c x ≡ true → lines_at_cluster crossed_journals c (x ∷ rest) ≡ y ∷ ys → x ≡ y
 first_of_journal c x rest y ys there is = first_kept (stands c) x rest y ys there is
