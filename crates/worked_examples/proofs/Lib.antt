@@ -1,4 +1,5 @@
 pub mod Differ
+pub mod Openings
 pub mod Same
 pub mod SameFlat
 pub mod Setups

@@ -25,13 +25,13 @@ IdleNeedsOffers =
 abbrev pub one_line : ℕ → Line
 one_line k = slice_index_or one_log k asks_yard
 
--- its first turn, which ends with a sleep, with a span as the mark of that
-abbrev pub turn_sleeping : ℕ → List Line
-turn_sleeping span = take 3 (drop 3 one_log) ++ record (one_line 6) { mark = Some span } ∷ []
+-- its log, with a span as the mark of its sleep
+abbrev pub log_sleeping : ℕ → List Line
+log_sleeping span = slice_set one_log 6 (record (one_line 6) { mark = Some span })
 
--- the sleep of the program is 2000: with the mark 1999 it is no turn
+-- the sleep of the program is 2000: with the mark 1999 the log does not follow the worker rule
 abbrev pub MarkIsSpan : Type 0
-MarkIsSpan = Turn one_run 0 0 (turn_sleeping 2000) × (Turn one_run 0 0 (turn_sleeping 1999) → ⊥)
+MarkIsSpan = (log_sleeping 2000 ≡ one_log) × (Worked one_run 0 (log_sleeping 1999) → ⊥)
 
 -- the turn in which it is woken, and placed again
 abbrev pub waking_turn : List Line
