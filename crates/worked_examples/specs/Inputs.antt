@@ -15,6 +15,7 @@ first_line = codes "{\"clusters\":[[1,1000]],\"edges\":[],\"groups\":[[0,0,0,0,0
 abbrev pub loose_line : List ℕ
 loose_line = codes "{\"version\":1, \"threads\":8,\"groups\":[[0,0,0,0,0,0]],\"edges\":[],\"clusters\":[[1,1000]]}\n"
 
+-- an output and a status
 abbrev pub outcome_of : List ℕ → Status → Judged
 outcome_of out status = record { out = out; status = status }
 

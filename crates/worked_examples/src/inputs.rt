@@ -1,7 +1,7 @@
 //! Whole inputs, worked, as theorems: the definitions of texts compute to these outputs and statuses.
 
 ghost use Rattle.worked_examples.specs.Inputs.{TracesReplayed, TracesStopped, RunsJudged, RunTexts};
-ghost use Rattle.worked_examples.specs.Runs.{IdleTurns, LogOfOneThread, CrossedDoNotFit, ChoiceIsByLanes};
+ghost use Rattle.worked_examples.specs.Runs.{IdleTurns, LogLeavesHandEmpty};
 
 /// Short traces, and what replay comes to.
 pub fn traces_replayed()
@@ -23,22 +23,12 @@ pub fn run_texts()
     ensures { RunTexts }
 {}
 
-/// A turn that finds nothing is idle.
+/// A turn that finds nothing is idle, and no other.
 pub fn idle_turns()
     ensures { IdleTurns }
 {}
 
-/// A log has the entries of its history, and leaves its hand empty.
-pub fn log_of_one_thread()
-    ensures { LogOfOneThread }
-{}
-
-/// An order that fits some journals does not fit them crossed.
-pub fn crossed_do_not_fit()
-    ensures { CrossedDoNotFit }
-{}
-
-/// The choice by deadlines of a queue is that among its lanes with entries.
-pub fn choice_is_by_lanes()
-    ensures { ChoiceIsByLanes }
+/// The log of a whole run leaves its hand empty.
+pub fn log_leaves_hand_empty()
+    ensures { LogLeavesHandEmpty }
 {}

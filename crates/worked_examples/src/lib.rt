@@ -3,4 +3,6 @@
 
 pub mod examples;
 pub mod inputs;
+pub mod refused;
 pub mod rows;
+pub mod whole_runs;

@@ -2,7 +2,7 @@
 
 ghost use Rattle.worked_examples.specs.Rows.Queues.{ArrivalOrder, HeadAndPull, RefusalsInOrder, EntersAgain, DecayLowers, TwoInOneUnit};
 ghost use Rattle.worked_examples.specs.Rows.Choices.{WarpAndStarvation, AboveUiEqual, AboveUiLower, GroupsTakeTurns, WaitingScores, WaitingScoresEqual, ScoresByGroup, BoundBeforeUnbound, NoWarp, WithWarp};
-ghost use Rattle.worked_examples.specs.Rows.Edges.{BoundThreads, AimNeedsLooks, AimStays, Offers, PulledFromTheMiddle, OffAndOn, OffAlone};
+ghost use Rattle.worked_examples.specs.Rows.Edges.{BoundThreads, AimNeedsLooks, AimStays, Offers, PulledFromTheMiddle, OffAndOn, OffAlone, Moments};
 
 /// The run `arrival_order_lines`.
 pub fn arrival_order()
@@ -117,4 +117,9 @@ pub fn off_and_on()
 /// The run `off_alone_lines`.
 pub fn off_alone()
     ensures { OffAlone }
+{}
+
+/// The run `moments_lines`.
+pub fn moments()
+    ensures { Moments }
 {}

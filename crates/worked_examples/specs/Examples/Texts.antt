@@ -71,10 +71,11 @@ SetupReadings =
     × (read_setup_text (codes "{\"clusters\":[[1,1000]],\"edges\":[],\"groups\":[[0,0,0,0,0,0]],\"threads\":8,\"version\":2}") ≡ Err (setup_faults.Shape fields.Times))
     × (read_setup_text (codes "{\"clusters\":[[1,1000]],\"edges\":[],\"groups\":[[0,0,0,0,0,0]],\"threads\":8,\"version\":3}") ≡ Err (setup_faults.Range fields.Version))
 
--- the lines of a trace after the setup, judged: the output and the status
+-- the lines of a trace after the setup, judged
 abbrev pub judged_lines : List (List ℕ) → List ℕ → Judged
 judged_lines lines rest = judge_lines one_cluster end_met rest 2 lines (empty_machine one_cluster)
 
+-- the output and the status of each: a faulty line, a step that does not fit, an answer that differs, one that does not, and a line cut off
 abbrev pub Judgements : Type 0
 Judgements =
     (judged_lines (codes "0 0 select" ∷ codes "0 0 jump" ∷ []) [] ≡ record { out = codes "0 0 select = -\n"; status = bad_line 3 line_faults.Word })

@@ -1,7 +1,9 @@
--- Worked runs along edges: bound threads, aims, offers, and clusters that are off.
-use Rattle.std.specs.Prelude.{List, None, Some, [], false, ◌∷◌}
+-- Worked runs along edges: bound threads, aims, offers, clusters that are off, and moments.
+use Rattle.std.specs.Prelude.{List, None, Some, [], false, ℕ, ◌∷◌}
+use Rattle.sched_base.specs.declared.Act.{Act}
 use Rattle.sched_base.specs.declared.Bucket.TheVariants.{Fg, Ut}
-use Rattle.worked_examples.specs.Rows.Run.{Replies, Said, one_cluster, row_line, two_clusters, two_clusters_apart}
+use Rattle.sched_base.specs.declared.Step.{Step}
+use Rattle.worked_examples.specs.Rows.Run.{Replies, RepliesTo, Said, one_cluster, row_line, two_clusters, two_clusters_apart}
 use Rattle.sched_base.specs.declared.Act.TheVariants as acts
 use Rattle.sched_base.specs.declared.Answer.TheVariants as answers
 
@@ -142,3 +144,24 @@ off_alone_lines =
 -- what the machine replies to these steps
 abbrev pub OffAlone : Type 0
 OffAlone = Replies one_cluster off_alone_lines
+
+-- a step as it is handed in
+abbrev pub step_at : ℕ → ℕ → Act → Step
+step_at moment actor act = record { moment = moment; actor = actor; act = act }
+
+-- four steps, two of which are handed in at a moment that is past
+abbrev pub moments_steps : List Step
+moments_steps = step_at 100 0 acts.Select ∷ step_at 200 0 acts.End ∷ step_at 50 0 acts.Select ∷ step_at 50 1 (acts.Offer 0) ∷ []
+
+-- moments are raised to the last ones of actor and cluster; a refused step leaves these as they were
+abbrev pub moments_lines : List Said
+moments_lines =
+    row_line 100 0 (acts.Select) answers.Empty
+    ∷ row_line 200 0 (acts.End) answers.HandEmpty
+    ∷ row_line 100 0 (acts.Select) answers.Empty
+    ∷ row_line 100 1 (acts.Offer 0) answers.Empty
+    ∷ []
+
+-- what the machine replies to these steps
+abbrev pub Moments : Type 0
+Moments = RepliesTo two_clusters moments_steps moments_lines

@@ -14,6 +14,7 @@ pub record Said : Type 0 where
   pub step : Step
   pub answer : Answer
 
+-- a line by its parts
 abbrev pub row_line : ℕ → ℕ → Act → Answer → Said
 row_line moment actor act answer = record { step = record { moment = moment; actor = actor; act = act }; answer = answer }
 
@@ -21,9 +22,13 @@ row_line moment actor act answer = record { step = record { moment = moment; act
 abbrev pub said : Entry → Said
 said e = record { step = e.step; answer = e.answer }
 
--- the machine, from the empty one, replies to the steps of the lines by these lines
+-- the machine, from the empty one, replies to some steps by these lines
+abbrev pub RepliesTo : SetupParts → List Step → List Said → Type 0
+RepliesTo setup steps lines = map said (replies setup (empty_machine setup) steps) ≡ lines
+
+-- it replies to the steps of the lines by these lines
 abbrev pub Replies : SetupParts → List Said → Type 0
-Replies setup lines = map said (replies setup (empty_machine setup) (map (λ (l : Said). l.step) lines)) ≡ lines
+Replies setup lines = RepliesTo setup (map (λ (l : Said). l.step) lines) lines
 
 -- the times of version 1, by bucket index
 abbrev pub times_of_version_one_all : List Times
@@ -33,9 +38,11 @@ times_of_version_one_all = map times_of_version_one all_buckets
 abbrev pub prefers_always : ℕ → List ℕ
 prefers_always c = c ∷ c ∷ c ∷ c ∷ c ∷ c ∷ []
 
+-- a cluster of so many processors, and its rate
 abbrev pub cluster_parts : ℕ → ℕ → ClusterParts
 cluster_parts cpus rate = record { cpus = cpus; rate = rate }
 
+-- an edge by its parts
 abbrev pub edge : ℕ → ℕ → ℕ → Bool → ℕ → EdgeSpec
 edge from to weight migrate steal = record { from = from; to = to; weight = weight; migrate = migrate; steal = steal }
 
@@ -50,12 +57,15 @@ single groups threads = record {
   version = 1;
 }
 
+-- one group, and room for eight threads
 abbrev pub one_cluster : SetupParts
 one_cluster = single 1 8
 
+-- one group, and room for one thread
 abbrev pub one_thread : SetupParts
 one_thread = single 1 1
 
+-- two groups
 abbrev pub two_groups : SetupParts
 two_groups = single 2 8
 
@@ -70,21 +80,26 @@ two_clusters_at weight = record {
   version = 1;
 }
 
+-- the edge from the first weighs 8000
 abbrev pub two_clusters : SetupParts
 two_clusters = two_clusters_at 8000
 
+-- the same with the weight 20000
 abbrev pub two_clusters_apart : SetupParts
 two_clusters_apart = two_clusters_at 20000
 
--- one cluster whose times are stated: those of version 1 with another WARP for FG
+-- the times of version 1 with another WARP for FG
 abbrev pub times_with_warp : ℕ → List Times
 times_with_warp warp = slice_set times_of_version_one_all 1 (record { wcel = 0; warp = warp; quantum = 10000 })
 
+-- one cluster with such times
 abbrev pub timed : ℕ → SetupParts
 timed warp = record one_cluster { times = times_with_warp warp ∷ []; version = 2 }
 
+-- FG may pass nothing
 abbrev pub without_warp : SetupParts
 without_warp = timed 0
 
+-- FG has its WARP of version 1
 abbrev pub timed_warp : SetupParts
 timed_warp = timed 8000

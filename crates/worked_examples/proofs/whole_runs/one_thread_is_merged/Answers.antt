@@ -2,7 +2,7 @@
 use Rattle.std.proofs.Common.{refl, rules, ℕ, zero, suc, ◌<◌, ◌≡◌, arith, length, get_or as slice_index_or, [], ◌∷◌}
 use Rattle.worked_examples.specs.Examples.OneThread.{one_journal, one_log}
 use Rattle.flat_policy.specs.Runs.Interleaving.{lines_at_cluster, lines_of_actor}
-use Rattle.worked_examples.proofs.examples.one_thread_is_merged.Goals as goal
+use Rattle.worked_examples.proofs.whole_runs.one_thread_is_merged.Goals as goal
 
 at_the_cluster : (c : ℕ) → c < length (one_journal ∷ []) → lines_at_cluster (one_journal ∷ []) c one_log ≡ slice_index_or (one_journal ∷ []) c []
 at_the_cluster zero h = refl
