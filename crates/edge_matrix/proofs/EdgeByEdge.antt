@@ -1,5 +1,5 @@
 -- The tables of a setup, edge by edge.
-use Rattle.std.proofs.Common.{sym, drop, slice_get, zero, suc, ◌+◌, ◌≡◌, ◌≢◌, ◌<◌, ◌&&◌, ◌==◌, Bool, true, false, ℕ, List, [], ◌∷◌, cond, get_or, set, replicate, refl, ap, arith, ◌∙◌, Option, Some, None, find}
+use Rattle.std.proofs.Common.{sym, drop, slice_get, zero, suc, ◌+◌, ◌≡◌, ◌≢◌, ◌<◌, ◌&&◌, ◌==◌, Bool, true, false, ℕ, List, [], ◌∷◌, cond, replicate, refl, ap, arith, ◌∙◌, Option, Some, find}
 use Rattle.std.specs.Option.{option_map_or}
 use Rattle.std.proofs.lemmas.Bool.Decides.{nat_tests}
 use Rattle.flat_policy.specs.declared.setup.EdgeSpec.{EdgeSpec}

@@ -1,5 +1,5 @@
 -- Lists of what a function makes of the numbers from one on.
-use Rattle.std.proofs.Common.{◌≡◌, ◌≢◌, ◌≤◌, ◌<◌, ◌+◌, ℕ, zero, suc, List, ◌∷◌, map, get_or, set, refl, ap, arith, ◌∙◌}
+use Rattle.std.proofs.Common.{◌≡◌, ◌≢◌, ◌≤◌, ◌<◌, ◌+◌, ℕ, zero, suc, map, get_or, set, refl, ap, arith, ◌∙◌}
 use Rattle.flat_policy.specs.Policy.Setup.{numbers_from}
 
 -- each by its place

@@ -1,9 +1,9 @@
 -- The numbers of a setup's edges are in their ranges.
-use Rattle.std.proofs.Common.{◌≡◌, ◌≤◌, ◌<◌, ◌+◌, ◌^◌, ℕ, suc, Bool, true, false, cond, All, List, [], ◌∷◌, Option, Some, None, find, ap, arith, inl, inr, ◌∙◌, subst, sym}
+use Rattle.std.proofs.Common.{◌≡◌, ◌≤◌, ◌<◌, ◌^◌, ℕ, suc, Bool, cond, All, List, [], ◌∷◌, Some, find, ap, arith, inl, inr, subst, sym}
 use Rattle.std.specs.Option.{option_map_or}
 use Rattle.std.proofs.lemmas.Bool.{cases_Bool}
 use Rattle.flat_policy.specs.declared.setup.EdgeSpec.{EdgeSpec}
-use Rattle.flat_policy.specs.Policy.BuiltSetups.{IsEdge, IsSetup}
+use Rattle.flat_policy.specs.Policy.BuiltSetups.{IsEdge}
 use Rattle.flat_policy.specs.Policy.Setup.{SetupParts, cluster_count, edge_weight, steal_mask}
 use Rattle.edge_matrix.specs.EdgeTables.{AreEdges, EdgeTables, number_at}
 use Rattle.edge_matrix.proofs.EdgeByEdge.{leads}

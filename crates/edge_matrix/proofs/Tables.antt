@@ -1,8 +1,5 @@
 -- Tables of a number for each pair.
-use Rattle.std.proofs.Common.{◌≡◌, ◌≢◌, ◌≤◌, ◌<◌, ◌+◌, ◌⊎◌, ◌&&◌, ◌==◌, ℕ, zero, suc, List, [], ◌∷◌, map, length, get_or, set, Bool, true, false, nat_eq, cond, refl, sym, ap, arith, ◌∙◌, inl, inr, replicate}
-use Rattle.std.proofs.lemmas.Grind.{common_steps}
-use Rattle.std.proofs.lemmas.Bool.Decides.{nat_tests}
-use Rattle.std.proofs.lemmas.List.{get_or-set_same, get_or-set_other}
+use Rattle.std.proofs.Common.{◌≡◌, ◌≢◌, ◌<◌, ℕ, List, [], map, get_or, set, Bool, true, false, nat_eq, cond, refl, sym, ap, arith, ◌∙◌, replicate}
 use Rattle.flat_policy.specs.Policy.Setup.{numbers_below}
 use Rattle.edge_matrix.specs.EdgeTables.{number_at, table_of}
 use Rattle.edge_matrix.proofs.Numbers.{get_or-map_numbers, map_numbers-but_one, map_numbers-same}

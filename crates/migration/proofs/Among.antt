@@ -1,8 +1,8 @@
 -- The looks at the clusters of a setup, after each change of all.
-use Rattle.std.proofs.Common.{◌≡◌, ◌≤◌, ◌<◌, ◌+◌, ◌-◌, ◌++◌, ℕ, zero, suc, List, ◌∷◌, Option, Some, None, Result, replicate, take, slice_set, ap, arith, refl, sym, ◌∙◌}
+use Rattle.std.proofs.Common.{◌≡◌, ◌≤◌, ◌<◌, ℕ, zero, suc, List, ◌∷◌, Option, Some, None, Result, replicate, take, slice_set, ap, arith, refl, sym, ◌∙◌}
 use Rattle.std.proofs.Math.Seq.{take-set-lt}
 use Rattle.sched_base.specs.declared.Facts.{Facts}
-use Rattle.flat_policy.specs.Policy.Aim.{Look, aim, not_looked}
+use Rattle.flat_policy.specs.Policy.Aim.{Look}
 use Rattle.flat_policy.specs.Policy.BuiltSetups.{IsSetup}
 use Rattle.flat_policy.specs.Policy.Machine.{no_looks}
 use Rattle.flat_policy.specs.Policy.Setup.{SetupParts, cluster_count}

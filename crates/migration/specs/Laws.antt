@@ -10,5 +10,6 @@ pub record GoesByClusters (setup : SetupParts) (looks : List (Option Look)) (t :
   pub aim : aim setup (looks_among setup looks) t ≡ aim setup looks t
   pub look_first : not_looked setup (looks_among setup looks) t ≡ not_looked setup looks t
 
+-- so an aim goes by the looks at the clusters alone
 abbrev pub AimGoesByClusters : Type 0
 AimGoesByClusters = (setup : SetupParts) (looks : List (Option Look)) (t : Facts) → t.prefer < cluster_count setup → GoesByClusters setup looks t

@@ -14,6 +14,7 @@ abbrev pub seen : Note → Look
 seen (Load l) = loaded l
 seen Off = off
 
+-- a look that was noted, where one was
 abbrev pub noted : Option Note → Option Look
 noted None = None
 noted (Some n) = Some (seen n)
@@ -45,6 +46,7 @@ lacks_look setup looks prefer c = ((c == prefer) || migrates setup prefer c) && 
 abbrev pub target_of : Candidate → Target
 target_of x = record { cluster = x.cluster; weighed = x.weighed }
 
+-- a candidate as a target, where there is one
 abbrev pub targeted : Option Candidate → Option Target
 targeted None = None
 targeted (Some x) = Some (target_of x)

@@ -31,6 +31,7 @@ IsOfLine setup_faults.NotJson = Unit {0}
 IsOfLine (setup_faults.Shape field) = Unit {0}
 IsOfLine (setup_faults.Range field) = Unit {0}
 
+-- an error that is such a fault, or want of memory
 abbrev pub IsOfLineError : SetupError → Type 0
 IsOfLineError errors.Memory = Unit {0}
 IsOfLineError (errors.Fault fault) = IsOfLine fault

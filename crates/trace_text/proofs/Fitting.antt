@@ -1,5 +1,5 @@
 -- The numbers of a step that a built setup fits are in the ranges of lines.
-use Rattle.std.proofs.Common.{◌≡◌, ◌≤◌, ◌<◌, ◌^◌, ◌&&◌, ℕ, zero, suc, All, Bool, true, IfSome, IsTrue, List, [], ◌∷◌, None, Option, Some, arith, nat_le, nat_lt}
+use Rattle.std.proofs.Common.{◌≡◌, ◌≤◌, ◌^◌, ◌&&◌, ℕ, zero, suc, All, true, IfSome, IsTrue, List, [], ◌∷◌, None, Option, Some, arith, nat_le, nat_lt}
 use Rattle.std.specs.Option.{option_map_or}
 use Rattle.std.proofs.lemmas.Bool.{and_parts, leb-true, ltb-true}
 use Rattle.sched_base.specs.Limits.{moment_limit}

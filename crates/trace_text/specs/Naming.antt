@@ -42,6 +42,7 @@ act_names =
     ∷ worded (codes "on") act_words.On
     ∷ []
 
+-- what is read behind the word of an act
 abbrev pub act_behind : ActWord → ArgumentReading
 act_behind act_words.Make = make_at
 act_behind act_words.Enter = enter_at
@@ -69,6 +70,7 @@ place_names =
     ∷ worded (codes "none") place_words.Nowhere
     ∷ []
 
+-- what is read behind the word of a place
 abbrev pub place_behind : PlaceWord → PlaceReading
 place_behind place_words.Queue = queue_at
 place_behind place_words.Hand = hand_at_actor
@@ -90,6 +92,7 @@ refusal_names =
     ∷ worded (codes "LookFirst") refusal_words.LookFirst
     ∷ []
 
+-- what is read behind the word of a refusal
 abbrev pub refusal_behind : RefusalWord → AnswerReading
 refusal_behind refusal_words.HandFull = lone_answer answers.HandFull
 refusal_behind refusal_words.HandEmpty = lone_answer answers.HandEmpty
@@ -117,6 +120,7 @@ answer_names =
     ∷ worded (codes "no") answer_words.No
     ∷ []
 
+-- what is read behind the word of an answer
 abbrev pub answer_behind : AnswerWord → AnswerReading
 answer_behind answer_words.Yes = lone_answer answers.Yes
 answer_behind answer_words.Pri = counted (λ p. answers.Pri p) 127
@@ -138,6 +142,7 @@ run_names =
     ∷ worded (codes "on") run_words.On
     ∷ []
 
+-- what is read behind the word of a line of a run
 abbrev pub run_behind : RunWord → RunReading
 run_behind run_words.Thread = thread_reading
 run_behind run_words.Off = power_reading false

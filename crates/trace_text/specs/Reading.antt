@@ -12,11 +12,12 @@ abbrev pub Gives : {X Y : Type 0} → (X → Y) → Result X LineFault → Resul
 Gives view (Ok x) read = read ≡ Ok (view x)
 Gives view (Err e) read = read ≡ Err e
 
--- the pieces of what is left of a line
+-- the pieces of a text, where one is left
 abbrev pub left_of : Option (Bor (List ℕ)) → List (List ℕ)
 left_of None = []
 left_of (Some text) = pieces text.now
 
+-- the pieces that are left of a line
 abbrev pub left : Pieces → List (List ℕ)
 left p = left_of p.rest
 

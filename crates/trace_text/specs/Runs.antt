@@ -20,6 +20,7 @@ pub record HasItsSpans (p : ProgramLine) : Type 0 where
   pub few : p.count ≤ most_spans
   pub unused : drop p.count p.spans ≡ replicate (most_spans - p.count) 0
 
+-- an off or on line, as the definitions keep it
 abbrev pub power_of : Power → PowerAt
 power_of p = record { cluster = p.cluster; on = p.on; turn = p.turn }
 
@@ -28,6 +29,7 @@ abbrev pub run_says : RunLine → RunSays
 run_says (run_lines.Thread p) = program_line (program_of p)
 run_says (run_lines.Power p) = power_line (power_of p)
 
+-- a thread line has its spans
 abbrev pub HasItsSpansIn : RunLine → Type 0
 HasItsSpansIn (run_lines.Thread p) = HasItsSpans p
 HasItsSpansIn (run_lines.Power p) = ⊤
@@ -36,10 +38,11 @@ HasItsSpansIn (run_lines.Power p) = ⊤
 abbrev pub thread_word : List (Worded ⊤)
 thread_word = worded (codes "thread") tt ∷ []
 
--- the program of a line of a run, where that is a thread line
+-- the program that the pieces of a thread line give
 abbrev pub read_thread_pieces : List (List ℕ) → Result Program LineFault
 read_thread_pieces ps = and_then (next_piece (word_among thread_word) ps) (λ w. program_at w.1)
 
+-- the program of a line of a run, where that is a thread line
 abbrev pub read_program_line : List ℕ → Result Program LineFault
 read_program_line line = within_limit line (read_thread_pieces (pieces line))
 
@@ -57,16 +60,17 @@ pub record ProgramFits (p : Program) : Type 0 where
   pub odd : length p.spans % 2 ≡ 1
   pub few : length p.spans ≤ most_spans
 
--- the numbers of a power
+-- the numbers of an off or on line are in the ranges of lines
 pub record PowerFits (p : PowerAt) : Type 0 where
   pub cluster : p.cluster ≤ 15
   pub turn : p.turn ≤ 4999
 
--- what a line of a run says fits, and its text
+-- the numbers of what a line of a run says are in the ranges of lines
 abbrev pub SaysFits : RunSays → Type 0
 SaysFits (program_line p) = ProgramFits p
 SaysFits (power_line p) = PowerFits p
 
+-- the text of what a line of a run says
 abbrev pub says_text : RunSays → List ℕ
 says_text (program_line p) = program_text p
 says_text (power_line p) = power_text p
