@@ -15,7 +15,7 @@ pub fn lane_index(lane: Lane) -> usize
     ensures small { result < 10 }
 {
     let unbound = if lane.bound { 0 } else { 1 };
-    lane.bucket.index() as usize * 2 + unbound - 2
+    (lane.bucket.index() as usize - 1) * 2 + unbound
 }
 
 /// The timeshare lane at an index, from 0 for bound foreground to 9 for unbound background. It is

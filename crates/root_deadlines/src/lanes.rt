@@ -7,8 +7,8 @@ ghost use Rattle.root_deadlines.specs.Lanes.{AreStatesOf, filled_among, higher_t
 ghost use Rattle.root_deadlines.specs.Indices.{index_of_lane};
 ghost use Rattle.root_deadlines.specs.Sooner.{sooner_of};
 
-use crate::lane_set::LaneSet;
 use crate::indices::{lane_at_index, lane_index};
+use crate::lane_set::LaneSet;
 use bucket_tables::Lane;
 use sched_base::Bucket;
 use std::marker::Model;

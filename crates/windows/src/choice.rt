@@ -190,7 +190,12 @@ impl Windows {
         ensures changes { self.new ≡ with_choice now result.0 (Some result.1) self.old }
     {
         let (lane, kind) = self.chosen();
-        self.serve(lane, kind, now);
+        // kind by kind, so that a compiler makes of each the few writes that it wants
+        match kind {
+            Kind::Pass => self.serve(lane, Kind::Pass, now),
+            Kind::Starve => self.serve(lane, Kind::Starve, now),
+            Kind::Natural => self.serve(lane, Kind::Natural, now),
+        }
         (lane, kind)
     }
 

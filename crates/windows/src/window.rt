@@ -80,7 +80,7 @@ impl Window {
         requires { now < 2 ^ 40 }
         ensures { (at : Lane) (ts : List Times) → times_for ts at.bucket ≡ times
             → lane_window at result ≡ (if window_over times.quantum now self.starved
-                then renewed_deadline ts now (lane_window at self) else lane_window at self) }
+            then renewed_deadline ts now (lane_window at self) else lane_window at self) }
     {
         if is_over(self.starved, times.quantum, now) {
             self.renewed(times, now)

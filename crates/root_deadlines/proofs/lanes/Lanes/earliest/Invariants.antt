@@ -9,7 +9,7 @@ abbrev pub invariant-loop-index : goal.invariant-loop-index
 invariant-loop-index l = record {
   ten : length l.rest ≡ 10;
   small : l.first.index < 10;
-  same : passed l.rest l.self.deadlines l.first ≡ passed l.initial.rest l.self.deadlines l.initial.first
+  same : passed l.rest l.self.deadlines l.first ≡ passed l.initial.rest l.self.deadlines l.initial.first;
 }
 
 abbrev pub decreases-loop-index : goal.decreases-loop-index
