@@ -1,7 +1,7 @@
 ghost use Rattle.std.specs.Prelude.{◌≡◌, ℕ, ◌+◌, ◌<◌, ◌≤◌, Some, None, IsTrue, ◌↔◌, IsSome, IsNone, IfSome, IfNone, []};
 
 use crate::meld::{add_root, take_root, take_slot};
-use crate::{Keyed, Steps};
+use crate::{Counted, Keyed, Steps};
 use link_arena::Arena;
 use std::marker::Model;
 use std::sync::ledger::Ledger;
@@ -78,6 +78,8 @@ impl<const K: usize> Heap<K> {
         slot: u32,
         steps: &mut Steps<L>,
     )
+    where
+        V::Key: Counted<L>,
         requires stands { Stands K V.key_of V.Key.precedes arena.old self.old }
         requires live { IsLive arena.old slot }
         requires lacks { Lacks K V.key_of arena.old self.old slot }
@@ -96,6 +98,8 @@ impl<const K: usize> Heap<K> {
         arena: &mut Arena<V>,
         steps: &mut Steps<L>,
     ) -> Option<u32>
+    where
+        V::Key: Counted<L>,
         requires { Stands K V.key_of V.Key.precedes arena.old self.old }
         ensures first { result ≡ self.old }
         ensures takes { IfSome result (λ slot. TakesPair K V.key_of V.Key.precedes arena.old arena.new self.old self.new slot) }
@@ -117,6 +121,8 @@ impl<const K: usize> Heap<K> {
         slot: u32,
         steps: &mut Steps<L>,
     )
+    where
+        V::Key: Counted<L>,
         requires stands { Stands K V.key_of V.Key.precedes arena.old self.old }
         requires held { Holds K V.key_of arena.old self.old slot }
         ensures takes { TakesPair K V.key_of V.Key.precedes arena.old arena.new self.old self.new slot }
@@ -134,6 +140,8 @@ impl<const K: usize> Heap<K> {
         v: V,
         steps: &mut Steps<L>,
     ) -> V
+    where
+        V::Key: Counted<L>,
         requires stands { Stands K V.key_of V.Key.precedes arena.old self.old }
         requires held { Holds K V.key_of arena.old self.old slot }
         ensures value { value_at arena.old slot ≡ Some result }

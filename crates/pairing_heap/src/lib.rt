@@ -10,5 +10,5 @@ mod steps;
 mod tests;
 
 pub use heap::Heap;
-pub use key::{HeapKey, Keyed};
+pub use key::{Counted, HeapKey, Keyed};
 pub use steps::Steps;

@@ -3,7 +3,7 @@ ghost use Rattle.link_arena.specs.Arena.{IsLive, links_at, value_at, Relinks};
 ghost use Rattle.pairing_heap.specs.Chain.{Adopts, CanAdopt, CanUnhook, Unhooks, KeepsRest, CanMeld, Melds, Chained, Split, Resplits, Pairs, Rechains, Merges, Joins};
 ghost use Rattle.pairing_heap.specs.Heap.{keys_at, Stands, Holds, Lacks, AddsPair, TakesPair};
 
-use crate::{HeapKey, Keyed, Steps};
+use crate::{Counted, HeapKey, Keyed, Steps};
 use link_arena::{Arena, Links};
 use std::sync::ledger::Ledger;
 
@@ -14,6 +14,8 @@ pub(crate) fn meld<V: Keyed<K>, const K: usize, L: Ledger>(
     b: u32,
     steps: &mut Steps<L>,
 ) -> u32
+where
+    V::Key: Counted<L>,
     requires { CanMeld K V.key_of V.Key.precedes arena.old a b }
     ensures melds { (both : CanMeld K V.key_of V.Key.precedes arena.old a b) → Melds K V.key_of V.Key.precedes arena.old arena.new a b result both }
     ensures ticks { steps.new ≡ steps.old + 1 }
@@ -34,6 +36,8 @@ pub(crate) fn add_root<V: Keyed<K>, const K: usize, L: Ledger>(
     slot: u32,
     steps: &mut Steps<L>,
 ) -> u32
+where
+    V::Key: Counted<L>,
     requires stands { Stands K V.key_of V.Key.precedes arena.old heap }
     requires live { IsLive arena.old slot }
     requires lacks { Lacks K V.key_of arena.old heap slot }
@@ -55,6 +59,8 @@ pub(crate) fn take_root<V: Keyed<K>, const K: usize, L: Ledger>(
     root: u32,
     steps: &mut Steps<L>,
 ) -> Option<u32>
+where
+    V::Key: Counted<L>,
     requires { Stands K V.key_of V.Key.precedes arena.old (Some root) }
     ensures takes { TakesPair K V.key_of V.Key.precedes arena.old arena.new (Some root) result root }
     ensures ticks { steps.old ≤ steps.new }
@@ -71,6 +77,8 @@ pub(crate) fn take_slot<V: Keyed<K>, const K: usize, L: Ledger>(
     slot: u32,
     steps: &mut Steps<L>,
 ) -> Option<u32>
+where
+    V::Key: Counted<L>,
     requires stands { Stands K V.key_of V.Key.precedes arena.old heap }
     requires held { Holds K V.key_of arena.old heap slot }
     ensures takes { TakesPair K V.key_of V.Key.precedes arena.old arena.new heap result slot }
@@ -91,6 +99,8 @@ fn take_inner<V: Keyed<K>, const K: usize, L: Ledger>(
     slot: u32,
     steps: &mut Steps<L>,
 ) -> u32
+where
+    V::Key: Counted<L>,
     requires stands { Stands K V.key_of V.Key.precedes arena.old (Some root) }
     requires held { Holds K V.key_of arena.old (Some root) slot }
     requires below { root ≢ slot }
@@ -111,6 +121,8 @@ fn is_before<V: Keyed<K>, const K: usize, L: Ledger>(
     b: u32,
     steps: &mut Steps<L>,
 ) -> bool
+where
+    V::Key: Counted<L>,
     requires a_live { IsLive arena.now a }
     requires b_live { IsLive arena.now b }
     ensures answer { (x y : V.Key) → keys_at V.key_of arena.now a ≡ Some x → keys_at V.key_of arena.now b ≡ Some y → result ≡ V.Key.precedes x y }
@@ -163,6 +175,8 @@ pub(crate) fn merge_children<V: Keyed<K>, const K: usize, L: Ledger>(
     first: Option<u32>,
     steps: &mut Steps<L>,
 ) -> Option<u32>
+where
+    V::Key: Counted<L>,
     requires { Chained K V.key_of V.Key.precedes arena.old first }
     ensures merges { (was : Chained K V.key_of V.Key.precedes arena.old first) → Merges K V.key_of V.Key.precedes arena.old arena.new first result was }
     ensures ticks { steps.old ≤ steps.new }
@@ -178,6 +192,8 @@ fn join_children<V: Keyed<K>, const K: usize, L: Ledger>(
     children: Option<u32>,
     steps: &mut Steps<L>,
 ) -> u32
+where
+    V::Key: Counted<L>,
     requires { Split K V.key_of V.Key.precedes arena.old root children }
     ensures joins { (was : Split K V.key_of V.Key.precedes arena.old root children) → (links_at arena.old K root).next ≡ None → (links_at arena.old K root).prev ≡ None → Joins K V.key_of V.Key.precedes arena.old arena.new root children result was }
     ensures ticks { steps.old ≤ steps.new }
@@ -194,6 +210,8 @@ fn pair_up<V: Keyed<K>, const K: usize, L: Ledger>(
     first: Option<u32>,
     steps: &mut Steps<L>,
 ) -> Option<u32>
+where
+    V::Key: Counted<L>,
     requires { Chained K V.key_of V.Key.precedes arena.old first }
     ensures rechains { (was : Chained K V.key_of V.Key.precedes arena.old first) → Rechains K V.key_of V.Key.precedes arena.old arena.new first result was }
     ensures ticks { steps.old ≤ steps.new }
@@ -215,6 +233,8 @@ fn fold_up<V: Keyed<K>, const K: usize, L: Ledger>(
     first: Option<u32>,
     steps: &mut Steps<L>,
 ) -> Option<u32>
+where
+    V::Key: Counted<L>,
     requires { Chained K V.key_of V.Key.precedes arena.old first }
     ensures merges { (was : Chained K V.key_of V.Key.precedes arena.old first) → Merges K V.key_of V.Key.precedes arena.old arena.new first result was }
     ensures ticks { steps.old ≤ steps.new }
@@ -234,6 +254,8 @@ fn first_pair<V: Keyed<K>, const K: usize, L: Ledger>(
     first: u32,
     steps: &mut Steps<L>,
 ) -> (u32, Option<u32>)
+where
+    V::Key: Counted<L>,
     requires { Chained K V.key_of V.Key.precedes arena.old (Some first) }
     ensures pairs { (was : Chained K V.key_of V.Key.precedes arena.old (Some first)) → Pairs K V.key_of V.Key.precedes arena.old arena.new first result.0 result.1 was }
     ensures ticks { steps.old ≤ steps.new }
@@ -251,6 +273,8 @@ fn meld_next<V: Keyed<K>, const K: usize, L: Ledger>(
     other: u32,
     steps: &mut Steps<L>,
 ) -> (u32, Option<u32>)
+where
+    V::Key: Counted<L>,
     requires { Split K V.key_of V.Key.precedes arena.old top (Some other) }
     ensures splits { (was : Split K V.key_of V.Key.precedes arena.old top (Some other)) → Resplits K V.key_of V.Key.precedes arena.old arena.new top other result.0 result.1 was }
     ensures ticks { steps.new ≡ steps.old + 1 }

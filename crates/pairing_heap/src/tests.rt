@@ -3,7 +3,7 @@ ghost use Rattle.link_arena.specs.Arena.{IsLive, value_at};
 ghost use Rattle.pairing_heap.specs.Bench.{HoldBoth};
 ghost use Rattle.pairing_heap.specs.Heap.{Stands, Holds};
 
-use crate::{Heap, HeapKey, Keyed, Steps};
+use crate::{Counted, Heap, HeapKey, Keyed, Steps};
 use link_arena::Arena;
 use std::alloc::Global;
 use std::marker::{Brand, Model};
@@ -17,8 +17,10 @@ impl HeapKey for u64 {
     ghost precedes = { nat_lt };
 
     ghost order = { number_order };
+}
 
-    fn before<L: Ledger>(&self, other: &Self, steps: &mut Steps<L>) -> bool {
+impl<L: Ledger> Counted<L> for u64 {
+    fn before(&self, other: &Self, steps: &mut Steps<L>) -> bool {
         steps.tick();
         self < other
     }
