@@ -1,4 +1,4 @@
-ghost use Rattle.std.specs.Prelude.{◌≡◌, ℕ, ◌+◌, ◌<◌, ◌≤◌, Some, None, IsTrue, ◌↔◌, IsSome, IsNone, IfSome, IfNone, []};
+ghost use Rattle.std.specs.Prelude.{◌≡◌, ℕ, ◌+◌, ◌<◌, ◌≤◌, Some, None, IsTrue, ◌↔◌, IsSome, IsNone, IfSome, IfNone, [], length};
 
 use crate::meld::{add_root, take_root, take_slot};
 use crate::{Counted, Keyed, Steps};
@@ -106,6 +106,7 @@ impl<const K: usize> Heap<K> {
         ensures heap { IfNone result (self.new ≡ self.old) }
         ensures arena { IfNone result (arena.new ≡ arena.old) }
         ensures ticks { steps.old ≤ steps.new }
+        ensures most { steps.new ≤ steps.old + length (pairs_at K V.key_of arena.old self.old) }
     {
         let Some(root) = self.root else {
             return None;
@@ -127,6 +128,7 @@ impl<const K: usize> Heap<K> {
         requires held { Holds K V.key_of arena.old self.old slot }
         ensures takes { TakesPair K V.key_of V.Key.precedes arena.old arena.new self.old self.new slot }
         ensures ticks { steps.old ≤ steps.new }
+        ensures most { steps.new ≤ steps.old + length (pairs_at K V.key_of arena.old self.old) }
     {
         self.root = take_slot::<V, K, L>(arena, self.root, slot, steps);
     }
@@ -147,6 +149,7 @@ impl<const K: usize> Heap<K> {
         ensures value { value_at arena.old slot ≡ Some result }
         ensures rekeys { RekeysPair K V.key_of V.Key.precedes arena.old arena.new self.old self.new slot v }
         ensures ticks { steps.old ≤ steps.new }
+        ensures most { steps.new ≤ steps.old + length (pairs_at K V.key_of arena.old self.old) + 1 }
     {
         self.remove(arena, slot, steps);
         let old = arena.replace(slot, v);

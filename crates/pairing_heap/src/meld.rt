@@ -1,7 +1,7 @@
-ghost use Rattle.std.specs.Prelude.{◌≡◌, ◌≢◌, ℕ, ◌+◌, ◌<◌, ◌≤◌, Some, None};
+ghost use Rattle.std.specs.Prelude.{◌≡◌, ◌≢◌, ℕ, ◌+◌, ◌-◌, ◌/◌, ◌<◌, ◌≤◌, min, length, Some, None};
 ghost use Rattle.link_arena.specs.Arena.{IsLive, links_at, value_at, Relinks};
-ghost use Rattle.pairing_heap.specs.Chain.{Adopts, CanAdopt, CanUnhook, Unhooks, KeepsRest, CanMeld, Melds, Chained, Split, Resplits, Pairs, Rechains, Merges, Joins};
-ghost use Rattle.pairing_heap.specs.Heap.{keys_at, Stands, Holds, Lacks, AddsPair, TakesPair};
+ghost use Rattle.pairing_heap.specs.Chain.{Adopts, CanAdopt, CanUnhook, Unhooks, KeepsRest, CanMeld, Melds, Chained, Split, Resplits, Pairs, Rechains, Merges, MergesInPairs, Joins, siblings};
+ghost use Rattle.pairing_heap.specs.Heap.{keys_at, pairs_at, Stands, Holds, Lacks, AddsPair, TakesPair};
 
 use crate::{Counted, HeapKey, Keyed, Steps};
 use link_arena::{Arena, Links};
@@ -64,6 +64,7 @@ where
     requires { Stands K V.key_of V.Key.precedes arena.old (Some root) }
     ensures takes { TakesPair K V.key_of V.Key.precedes arena.old arena.new (Some root) result root }
     ensures ticks { steps.old ≤ steps.new }
+    ensures most { steps.new ≤ steps.old + length (pairs_at K V.key_of arena.old (Some root)) }
 {
     let children = arena.links(K, root).child;
     arena.set_links(K, root, Links::NONE);
@@ -83,6 +84,7 @@ where
     requires held { Holds K V.key_of arena.old heap slot }
     ensures takes { TakesPair K V.key_of V.Key.precedes arena.old arena.new heap result slot }
     ensures ticks { steps.old ≤ steps.new }
+    ensures most { steps.new ≤ steps.old + length (pairs_at K V.key_of arena.old heap) }
 {
     let root = heap.unwrap();
     if root == slot {
@@ -106,6 +108,7 @@ where
     requires below { root ≢ slot }
     ensures takes { TakesPair K V.key_of V.Key.precedes arena.old arena.new (Some root) (Some result) slot }
     ensures ticks { steps.old ≤ steps.new }
+    ensures most { steps.new ≤ steps.old + length (pairs_at K V.key_of arena.old (Some root)) }
 {
     let links = arena.links(K, slot);
     let pred = links.prev.unwrap();
@@ -179,7 +182,8 @@ where
     V::Key: Counted<L>,
     requires { Chained K V.key_of V.Key.precedes arena.old first }
     ensures merges { (was : Chained K V.key_of V.Key.precedes arena.old first) → Merges K V.key_of V.Key.precedes arena.old arena.new first result was }
-    ensures ticks { steps.old ≤ steps.new }
+    ensures pairs { (was : Chained K V.key_of V.Key.precedes arena.old first) → MergesInPairs K V.key_of V.Key.precedes arena.old arena.new first result was }
+    ensures ticks { (was : Chained K V.key_of V.Key.precedes arena.old first) → steps.new ≡ steps.old + (siblings was.tree - 1) }
 {
     let paired = pair_up::<V, K, L>(arena, first, steps);
     fold_up::<V, K, L>(arena, paired, steps)
@@ -197,6 +201,7 @@ where
     requires { Split K V.key_of V.Key.precedes arena.old root children }
     ensures joins { (was : Split K V.key_of V.Key.precedes arena.old root children) → (links_at arena.old K root).next ≡ None → (links_at arena.old K root).prev ≡ None → Joins K V.key_of V.Key.precedes arena.old arena.new root children result was }
     ensures ticks { steps.old ≤ steps.new }
+    ensures most { (was : Split K V.key_of V.Key.precedes arena.old root children) → steps.new ≤ steps.old + (siblings was.left + 1) }
 {
     match merge_children::<V, K, L>(arena, children, steps) {
         None => root,
@@ -214,7 +219,7 @@ where
     V::Key: Counted<L>,
     requires { Chained K V.key_of V.Key.precedes arena.old first }
     ensures rechains { (was : Chained K V.key_of V.Key.precedes arena.old first) → Rechains K V.key_of V.Key.precedes arena.old arena.new first result was }
-    ensures ticks { steps.old ≤ steps.new }
+    ensures ticks { (was : Chained K V.key_of V.Key.precedes arena.old first) → steps.new ≡ steps.old + siblings was.tree / 2 }
 {
     let mut rest = first;
     let mut paired = None;
@@ -237,7 +242,7 @@ where
     V::Key: Counted<L>,
     requires { Chained K V.key_of V.Key.precedes arena.old first }
     ensures merges { (was : Chained K V.key_of V.Key.precedes arena.old first) → Merges K V.key_of V.Key.precedes arena.old arena.new first result was }
-    ensures ticks { steps.old ≤ steps.new }
+    ensures ticks { (was : Chained K V.key_of V.Key.precedes arena.old first) → steps.new ≡ steps.old + (siblings was.tree - 1) }
 {
     let mut top = first?;
     let mut rest = arena.links(K, top).next;
@@ -258,7 +263,7 @@ where
     V::Key: Counted<L>,
     requires { Chained K V.key_of V.Key.precedes arena.old (Some first) }
     ensures pairs { (was : Chained K V.key_of V.Key.precedes arena.old (Some first)) → Pairs K V.key_of V.Key.precedes arena.old arena.new first result.0 result.1 was }
-    ensures ticks { steps.old ≤ steps.new }
+    ensures ticks { (was : Chained K V.key_of V.Key.precedes arena.old (Some first)) → steps.new ≡ steps.old + min 1 (siblings was.tree - 1) }
 {
     match arena.links(K, first).next {
         None => (first, None),
