@@ -1,7 +1,7 @@
 -- How many slots hold a value after each step.
-use Rattle.std.proofs.Common.{◌≡◌, ◌≢◌, ℕ, ◌+◌, Option, Some, None, is_some, true, refl, sym, ap, ◌∙◌, inl, inr, arith}
+use Rattle.std.proofs.Common.{◌≡◌, ℕ, ◌+◌, Option, Some, None, is_some, true, refl, sym, ap, ◌∙◌, inl, inr}
 use Rattle.std.proofs.lemmas.Bool.{cases_eq}
-use Rattle.link_arena.specs.Arena.{Arena, Node, value_of, node_at, value_at, live_count, SameMap, SameElsewhere, Inserts, Removes, Revalues, Relinks}
+use Rattle.link_arena.specs.Arena.{Arena, Node, value_of, node_at, value_at, live_count, SameMap, Inserts, Removes, Revalues, Relinks}
 use Rattle.link_arena.specs.declared.arena.Links.{Links}
 use Rattle.link_arena.proofs.NodeLemmas.{count_by-alike, count_by-one_more}
 

@@ -1,5 +1,5 @@
 -- Lists of cells and values side by side, and how many of their elements are something.
-use Rattle.std.proofs.Common.{◌≡◌, ℕ, zero, suc, ◌+◌, ◌<◌, ◌≤◌, cond, true, false, ◌≢◌, List, [], ◌∷◌, ◌++◌, length, get_or, set, Option, Some, None, IsSome, is_some, count_by, refl, sym, ap, ◌∙◌, arith, add-zero}
+use Rattle.std.proofs.Common.{◌≡◌, ℕ, zero, suc, ◌+◌, ◌<◌, cond, true, false, ◌≢◌, List, [], ◌∷◌, ◌++◌, length, get_or, set, Option, Some, None, IsSome, is_some, count_by, refl, sym, ap, ◌∙◌, arith, add-zero}
 use Rattle.std.proofs.lemmas.List.{get_or_past, get_or-append-add}
 use Rattle.std.proofs.lemmas.List.Sums.{sum_by-cons, sum_by-set}
 use Rattle.link_arena.specs.Arena.{Node}

@@ -1,5 +1,5 @@
 -- A live slot has a value in the list.
-use Rattle.std.proofs.Common.{Some, ◌∙◌, sym, ap, arith, vec_len, get_or}
+use Rattle.std.proofs.Common.{◌∙◌, sym, arith, vec_len}
 use Rattle.link_arena.proofs.MapLemmas.{found, read, value_is}
 use Rattle.link_arena.proofs.arena.Arena.get.Goals as goal
 

@@ -1,7 +1,7 @@
 -- Any value may be written, so the slot has one afterwards.
-use Rattle.std.proofs.Common.{Some, refl, sym, ap, ◌∙◌, arith, is_some, vec_len}
+use Rattle.std.proofs.Common.{refl, sym, ap, ◌∙◌, arith, is_some, vec_len}
 use Rattle.std.specs.Option.{option_copied_mut}
-use Rattle.link_arena.specs.Arena.{value_at, with_value}
+use Rattle.link_arena.specs.Arena.{with_value}
 use Rattle.link_arena.proofs.SoundLemmas.{IsSound-revalued}
 use Rattle.link_arena.proofs.LenLemmas.{live_count-revalues}
 use Rattle.link_arena.proofs.MapLemmas.{found, read, value_is, seen-with_value, Revalues-with_value}

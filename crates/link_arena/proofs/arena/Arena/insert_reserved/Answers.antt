@@ -1,5 +1,5 @@
 -- The slot that was listed last had no value and has one.
-use Rattle.std.proofs.Common.{Some, ap, ◌∙◌, ◌++◌, option_to_list, sym, set}
+use Rattle.std.proofs.Common.{ap, ◌∙◌, ◌++◌, option_to_list}
 use Rattle.link_arena.proofs.SoundLemmas.{IsSound-filled, IsSound-relinked, last_listed}
 use Rattle.link_arena.proofs.LenLemmas.{live_count-inserts}
 use Rattle.link_arena.proofs.MapLemmas.{Inserts-set}

@@ -1,5 +1,5 @@
 -- Each cell has a value or is listed.
-use Rattle.std.proofs.Common.{arith, ap, sym, ◌∙◌, count_by, is_some}
+use Rattle.std.proofs.Common.{arith, ap}
 use Rattle.link_arena.specs.Arena.{live_count}
 use Rattle.link_arena.proofs.NodeLemmas.{count_by-nodes_of}
 use Rattle.link_arena.proofs.arena.Arena.len.Goals as goal

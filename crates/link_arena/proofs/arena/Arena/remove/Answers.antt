@@ -1,5 +1,5 @@
 -- The value goes out of its slot, which is listed.
-use Rattle.std.proofs.Common.{Some, ap, sym, ◌∙◌, arith, is_some, vec_len}
+use Rattle.std.proofs.Common.{ap, sym, ◌∙◌, arith, is_some, vec_len}
 use Rattle.link_arena.proofs.SoundLemmas.{IsSound-emptied, room_to_list}
 use Rattle.link_arena.proofs.LenLemmas.{live_count-removes}
 use Rattle.link_arena.proofs.MapLemmas.{Removes-set, found, read, value_is}

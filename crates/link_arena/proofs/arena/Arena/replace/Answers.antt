@@ -1,5 +1,5 @@
 -- One value is written to a slot that has a value.
-use Rattle.std.proofs.Common.{Some, ap, sym, ◌∙◌, arith, is_some, vec_len}
+use Rattle.std.proofs.Common.{ap, sym, ◌∙◌, arith, is_some, vec_len}
 use Rattle.link_arena.specs.Arena.{with_value}
 use Rattle.link_arena.proofs.SoundLemmas.{IsSound-revalued}
 use Rattle.link_arena.proofs.LenLemmas.{live_count-revalues}

@@ -1,5 +1,5 @@
 -- One cell is written, at a slot that has a value.
-use Rattle.std.proofs.Common.{Some, ap, ◌∙◌, is_some, vec_len}
+use Rattle.std.proofs.Common.{ap, is_some, vec_len}
 use Rattle.link_arena.proofs.SoundLemmas.{IsSound-relinked}
 use Rattle.link_arena.proofs.LenLemmas.{live_count-relinks}
 use Rattle.link_arena.proofs.MapLemmas.{Relinks-set, found}
