@@ -1,12 +1,13 @@
 -- What stays of a queue where the arena changes, and what its first entry is among all its entries.
 use Rattle.std.specs.Prelude.{Contains, List, Some, ℕ, ◌≡◌}
 use Rattle.flat_policy.specs.Laws.Choice.{OrdersMembers}
+use Rattle.flat_policy.specs.Offer.{foreign_before}
 use Rattle.flat_policy.specs.Precedence.{precedes}
 use Rattle.flat_policy.specs.Queue.{Queued}
 use Rattle.flat_policy.specs.Unpreceded.{IsUnpreceded, unpreceded}
 use Rattle.link_arena.specs.Arena.{Arena, Inserts, IsLive, Removes, value_at}
 use Rattle.pairing_heap.specs.Heap.{SameSlots}
-use Rattle.thread_queue.specs.Item.{entry_of, key_of_item}
+use Rattle.thread_queue.specs.Item.{entry_of, foreign_key_of_item, foreign_precedes, key_of_item, key_precedes}
 use Rattle.thread_queue.specs.Queue.{HasSlot, IsFirst, LacksSlot, Queue, StandsIn, members}
 use Rattle.thread_queue.specs.declared.item.Item.{Item}
 
@@ -48,3 +49,12 @@ pub record IsChosen (entries : List Queued) (entry : Queued) : Type 0 where
 abbrev pub FirstIsChosen : Type 0
 FirstIsChosen =
     (arena : Arena Item) (queue : Queue) (entries : List Queued) (slot : ℕ) → AreEntries arena queue entries → (first : IsFirst arena queue slot) → IsChosen entries (entry_of first.item)
+
+-- the keys of link set 1 go as an offer of the cluster's foreign entries does
+abbrev pub ForeignKeysOrderEntries : Type 0
+ForeignKeysOrderEntries =
+    (x y : Item) → foreign_precedes (foreign_key_of_item x) (foreign_key_of_item y) ≡ foreign_before (entry_of x) (entry_of y)
+
+-- the keys of link set 0 go as the entries of one unit do
+abbrev pub ItemKeysOrderEntries : Type 0
+ItemKeysOrderEntries = (x y : Item) → key_precedes (key_of_item x) (key_of_item y) ≡ precedes (entry_of x) (entry_of y)

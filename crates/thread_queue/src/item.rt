@@ -1,10 +1,11 @@
 ghost use Rattle.std.specs.Prelude.{◌≡◌};
 
-use pairing_heap::{HeapKey, Keyed, Steps};
+use pairing_heap::{Counted, HeapKey, Keyed, Steps};
 use sched_base::Thread;
 use std::sync::ledger::Ledger;
 
-/// What the arena holds: a thread in a queue.
+/// What the arena holds: a thread in a queue. Heaps of link set 0 order items as their unit does, by `ItemKey`, and heaps of
+/// link set 1 as an offer to another cluster does, by `ForeignKey`.
 pub struct Item {
     pub thread: Thread,
     /// The priority in the queue. The greater goes first.
@@ -29,8 +30,10 @@ impl HeapKey for ItemKey {
     ghost precedes = { key_precedes };
 
     ghost order = { key_order };
+}
 
-    fn before<L: Ledger>(&self, other: &Self, steps: &mut Steps<L>) -> bool {
+impl<L: Ledger> Counted<L> for ItemKey {
+    fn before(&self, other: &Self, steps: &mut Steps<L>) -> bool {
         steps.tick();
         self.pri > other.pri || (self.pri == other.pri && self.number < other.number)
     }
@@ -45,6 +48,53 @@ impl Keyed<0> for Item {
 
     fn key(&self) -> ItemKey {
         ItemKey {
+            pri: self.pri,
+            number: self.number,
+        }
+    }
+}
+
+/// By what the items of threads that prefer another cluster are ordered.
+#[derive(Clone, Copy, Debug, PartialEq, Eq)]
+pub struct ForeignKey {
+    /// The index of the thread's bucket, below 6. The lower goes first.
+    pub bucket: u8,
+    /// The priority in the queue. In one bucket the greater goes first.
+    pub pri: u8,
+    /// The order number. At one priority the lower goes first.
+    pub number: i64,
+}
+
+impl HeapKey for ForeignKey {
+    ghost use Rattle.thread_queue.specs.Item.{foreign_precedes};
+    ghost use Rattle.thread_queue.specs.KeyOrder.{foreign_order};
+
+    ghost precedes = { foreign_precedes };
+
+    ghost order = { foreign_order };
+}
+
+impl<L: Ledger> Counted<L> for ForeignKey {
+    fn before(&self, other: &Self, steps: &mut Steps<L>) -> bool {
+        steps.tick();
+        if self.bucket != other.bucket {
+            self.bucket < other.bucket
+        } else {
+            self.pri > other.pri || (self.pri == other.pri && self.number < other.number)
+        }
+    }
+}
+
+impl Keyed<1> for Item {
+    type Key = ForeignKey;
+
+    ghost use Rattle.thread_queue.specs.Item.{foreign_key_of_item};
+
+    ghost key_of = { foreign_key_of_item };
+
+    fn key(&self) -> ForeignKey {
+        ForeignKey {
+            bucket: self.thread.facts().bucket.index(),
             pri: self.pri,
             number: self.number,
         }

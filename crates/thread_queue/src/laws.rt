@@ -1,6 +1,6 @@
 //! Laws of queues, for whatever holds an arena. Each is the contract of a function that does nothing.
 
-ghost use Rattle.thread_queue.specs.Laws.{SlotsAreLive, StaysWhereSlotsStay, StaysWhereInserted, StaysWhereRemoved, FirstIsChosen};
+ghost use Rattle.thread_queue.specs.Laws.{SlotsAreLive, StaysWhereSlotsStay, StaysWhereInserted, StaysWhereRemoved, FirstIsChosen, ForeignKeysOrderEntries, ItemKeysOrderEntries};
 
 use crate::Item;
 use pairing_heap::laws as heaps;
@@ -36,4 +36,14 @@ pub fn stays_where_removed()
 /// The first entry of a queue is, among all its entries, the one that no other precedes.
 pub fn first_is_chosen()
     ensures { FirstIsChosen }
+{}
+
+/// Keys of link set 0 go as the entries of one unit do.
+pub fn item_keys_order_entries()
+    ensures { ItemKeysOrderEntries }
+{}
+
+/// Keys of link set 1 go as the entries that prefer another cluster do in an offer to it.
+pub fn foreign_keys_order_entries()
+    ensures { ForeignKeysOrderEntries }
 {}

@@ -80,6 +80,7 @@ impl ThreadQueue {
         requires held { HasSlot arena.old self.old slot }
         ensures removes { Removes arena.old arena.new self.old self.new slot }
         ensures ticks { steps.old ≤ steps.new }
+        ensures most { steps.new ≤ steps.old + self.old.count }
     {
         slots_are_live();
         self.heap.remove(arena, slot, steps);
@@ -104,6 +105,7 @@ impl ThreadQueue {
         requires held { HasSlot arena.old self.old slot }
         ensures settles { Settles arena.old arena.new self.old self.new slot usage seen pri }
         ensures ticks { steps.old ≤ steps.new }
+        ensures most { steps.new ≤ steps.old + (self.old.count + 1) }
     {
         slots_are_live();
         self.heap.remove(arena, slot, steps);
