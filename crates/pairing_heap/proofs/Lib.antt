@@ -15,3 +15,4 @@ pub mod Removing
 pub mod Rekeying
 pub mod Staying
 pub mod Both
+pub mod Apart
