@@ -4,7 +4,7 @@ use Rattle.std.specs.Prelude.{◌==◌}
 use Rattle.std.proofs.lemmas.Bool.{cases_eq}
 use Rattle.std.proofs.lemmas.List.Sums.{sum_by-cons}
 use Rattle.link_arena.specs.Arena.{Arena, value_at, links_at, IsLive, Revalues}
-use Rattle.pairing_heap.specs.Heap.{SameElements, times_of, key_of_value, keys_at, pairs_at, Stands, Holds, Lacks, IsApart, OthersStay, AddsPair, TakesPair, RekeysPair}
+use Rattle.pairing_heap.specs.Heap.{SameElements, times_of, key_of_value, keys_at, pairs_at, Stands, Holds, Lacks, IsApart, OthersStay, RevaluesOnly, AddsPair, TakesPair, RekeysPair}
 use Rattle.pairing_heap.specs.Laws.{AreApart, StaysApart, StaysIn}
 use Rattle.pairing_heap.proofs.Adding.{key_from_live}
 use Rattle.pairing_heap.proofs.Counts.{one, one_same, one_other}
@@ -37,6 +37,19 @@ module _ {V X : Type 0} (k : ℕ) (key_of : V → X) (precedes : X → X → Boo
       stays k key_of precedes old new heap stands record {
         keys = λ other held. same_keys old new slot value revalues keyed other;
         links = λ other held. revalues.links k other;
+      }
+
+  pub stays_rekeyed : (old new : Arena V) (set slot : ℕ) (value : V) → k ≢ set → RevaluesOnly set old new slot value → (heap : Option ℕ) → (Holds k key_of old heap slot → keys_at key_of old slot ≡ Some (key_of value)) → Stands k key_of precedes old heap → StaysIn k key_of precedes old new heap
+  stays_rekeyed old new set slot value unlike only heap keyed stands =
+      stays k key_of precedes old new heap stands record {
+        keys = λ other held. elim (cases_eq other slot) [
+          | inl same ↦
+              ap (keys_at key_of new) same
+              ∙ ap (key_of_value key_of) only.stored
+              ∙ sym (ap (keys_at key_of old) same ∙ keyed (omega (arith, held, ap (times_of (pairs_at k key_of old heap)) same)))
+          | inr differs ↦ ap (key_of_value key_of) (only.values other differs)
+        ];
+        links = λ other held. only.other_set k other unlike;
       }
 
   pub adds_pair : (old new : Arena V) (heap later : Option ℕ) (slot : ℕ) → IsLive old slot → AddsPair k key_of precedes old new heap later slot → length (pairs_at k key_of new later) ≡ length (pairs_at k key_of old heap) + 1

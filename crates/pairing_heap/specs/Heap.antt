@@ -23,6 +23,12 @@ pub record LinksOnly {V : Type 0} (k : ℕ) (old new : Arena V) (times : ℕ →
   pub elsewhere : (slot : ℕ) → times slot ≡ 0 → links_at new k slot ≡ links_at old k slot
   pub spare : new.spare ≡ old.spare
 
+-- the slot has this value; other values, and links of other sets than k, stay
+pub record RevaluesOnly {V : Type 0} (k : ℕ) (old new : Arena V) (slot : ℕ) (value : V) : Type 0 where
+  pub stored : value_at new slot ≡ Some value
+  pub values : (other : ℕ) → other ≢ slot → value_at new other ≡ value_at old other
+  pub other_set : (set other : ℕ) → set ≢ k → links_at new set other ≡ links_at old set other
+
 module _ {V X : Type 0} where
   -- the key at each slot of the arena
   abbrev pub keys_at : (V → X) → Arena V → ℕ → Option X

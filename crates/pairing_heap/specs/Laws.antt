@@ -1,7 +1,7 @@
 -- What stays of a heap where the arena changes, and how often slots stand in it where a pair comes or goes.
 use Rattle.std.specs.Prelude.{◌≡◌, ◌≢◌, ℕ, ◌+◌, ◌≤◌, Bool, false, [], Option, Some, IsNone, IfSome, length, ◌==◌, if◌then◌else◌, ◌↔◌}
 use Rattle.link_arena.specs.Arena.{Arena, IsLive, SameMap, Inserts, Removes, Revalues}
-use Rattle.pairing_heap.specs.Heap.{times_of, keys_at, LinksOnly, pairs_at, Stands, Holds, Lacks, SameSlots, AddsPair, TakesPair, RekeysPair}
+use Rattle.pairing_heap.specs.Heap.{times_of, keys_at, LinksOnly, RevaluesOnly, pairs_at, Stands, Holds, Lacks, SameSlots, AddsPair, TakesPair, RekeysPair}
 
 module _ {V X : Type 0} (k : ℕ) (key_of : V → X) (precedes : X → X → Bool) where
   -- each slot of a heap holds a value
@@ -49,6 +49,12 @@ module _ {V X : Type 0} (k : ℕ) (key_of : V → X) (precedes : X → X → Boo
   -- a heap stays where only links of the other set change
   abbrev pub StaysWhereOtherSetChanges : Type 0
   StaysWhereOtherSetChanges = (old new : Arena V) (set : ℕ) (times : ℕ → ℕ) → k ≢ set → LinksOnly set old new times → (heap : Option ℕ) → Stands k key_of precedes old heap → StaysIn old new heap
+
+  -- a heap stays where a heap of the other set is rekeyed, and the slot is none of this heap's or keeps its key for it
+  abbrev pub StaysWhereOtherSetRekeys : Type 0
+  StaysWhereOtherSetRekeys =
+      (old new : Arena V) (set slot : ℕ) (value : V) → k ≢ set → RevaluesOnly set old new slot value
+      → (heap : Option ℕ) → (Holds k key_of old heap slot → keys_at key_of old slot ≡ Some (key_of value)) → Stands k key_of precedes old heap → StaysIn old new heap
 
   -- where a pair comes in, its slot stands once more in the heap, and each other slot as often
   abbrev pub AddsOneSlot : Type 0
