@@ -23,6 +23,17 @@ pub struct ItemKey {
     pub number: i64,
 }
 
+impl ItemKey {
+    ghost use Rattle.thread_queue.specs.Item.{key_precedes};
+
+    // Whether `self` has the greater priority, or at one priority the lower number.
+    fn goes_first(self, other: ItemKey) -> bool
+        ensures { result ≡ key_precedes self other }
+    {
+        self.pri > other.pri || (self.pri == other.pri && self.number < other.number)
+    }
+}
+
 impl HeapKey for ItemKey {
     ghost use Rattle.thread_queue.specs.Item.{key_precedes};
     ghost use Rattle.thread_queue.specs.KeyOrder.{key_order};
@@ -35,7 +46,7 @@ impl HeapKey for ItemKey {
 impl<L: Ledger> Counted<L> for ItemKey {
     fn before(&self, other: &Self, steps: &mut Steps<L>) -> bool {
         steps.tick();
-        self.pri > other.pri || (self.pri == other.pri && self.number < other.number)
+        self.goes_first(*other)
     }
 }
 
@@ -47,9 +58,10 @@ impl Keyed<0> for Item {
     ghost key_of = { key_of_item };
 
     fn key(&self) -> ItemKey {
+        let Item { pri, number, .. } = self;
         ItemKey {
-            pri: self.pri,
-            number: self.number,
+            pri: *pri,
+            number: *number,
         }
     }
 }
@@ -63,6 +75,18 @@ pub struct ForeignKey {
     pub pri: u8,
     /// The order number. At one priority the lower goes first.
     pub number: i64,
+}
+
+impl ForeignKey {
+    // The key among items of one bucket.
+    fn unit_key(self) -> ItemKey
+        ensures { result ≡ record { pri = self.pri; number = self.number } }
+    {
+        ItemKey {
+            pri: self.pri,
+            number: self.number,
+        }
+    }
 }
 
 impl HeapKey for ForeignKey {
@@ -80,7 +104,7 @@ impl<L: Ledger> Counted<L> for ForeignKey {
         if self.bucket != other.bucket {
             self.bucket < other.bucket
         } else {
-            self.pri > other.pri || (self.pri == other.pri && self.number < other.number)
+            self.unit_key().goes_first(other.unit_key())
         }
     }
 }
