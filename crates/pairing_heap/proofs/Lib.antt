@@ -16,3 +16,4 @@ pub mod Rekeying
 pub mod Staying
 pub mod Both
 pub mod Apart
+pub mod Clearing

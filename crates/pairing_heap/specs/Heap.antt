@@ -103,3 +103,9 @@ module _ {V X : Type 0} where
     pub elsewhere : (other : ℕ) → times_of (pairs_at k key_of old heap) other ≡ 0 → links_at new k other ≡ links_at old k other
     pub spare : new.spare ≡ old.spare
     pub others : OthersStay k key_of precedes old new (times_of (pairs_at k key_of old heap))
+
+  -- the links of each of the heap's slots lead nowhere; the rest stays
+  pub record ClearsSlots (k : ℕ) (key_of : V → X) (precedes : X → X → Bool) (old new : Arena V) (heap : Option ℕ) : Type 0 where
+    pub free : (slot : ℕ) → Holds k key_of old heap slot → links_at new k slot ≡ unlinked
+    pub kept : LinksOnly k old new (times_of (pairs_at k key_of old heap))
+    pub others : OthersStay k key_of precedes old new (times_of (pairs_at k key_of old heap))

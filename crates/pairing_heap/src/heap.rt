@@ -1,5 +1,6 @@
 ghost use Rattle.std.specs.Prelude.{◌≡◌, ℕ, ◌+◌, ◌<◌, ◌≤◌, Some, None, IsTrue, ◌↔◌, IsSome, IsNone, IfSome, IfNone, [], length};
 
+use crate::clear::clear_from;
 use crate::meld::{add_root, take_root, take_slot};
 use crate::{Counted, Keyed, Steps};
 use link_arena::Arena;
@@ -22,7 +23,7 @@ impl<const K: usize> Model for Heap<K> {
 
 impl<const K: usize> Heap<K> {
     ghost use Rattle.link_arena.specs.Arena.{IsLive, value_at};
-    ghost use Rattle.pairing_heap.specs.Heap.{Stands, Lacks, Holds, AddsPair, TakesPair, RekeysPair, pairs_at, IsLeast, SameSlots};
+    ghost use Rattle.pairing_heap.specs.Heap.{Stands, Lacks, Holds, AddsPair, TakesPair, RekeysPair, pairs_at, IsLeast, SameSlots, ClearsSlots};
 
     /// A heap with no entry.
     pub fn new() -> Heap<K>
@@ -131,6 +132,16 @@ impl<const K: usize> Heap<K> {
         ensures most { steps.new ≤ steps.old + length (pairs_at K V.key_of arena.old self.old) }
     {
         self.root = take_slot::<V, K, L>(arena, self.root, slot, steps);
+    }
+
+    /// Takes all slots out, whose links lead nowhere then. Nothing is compared, and each slot is looked at twice at most.
+    pub fn clear<V: Keyed<K>>(&mut self, arena: &mut Arena<V>)
+        requires { Stands K V.key_of V.Key.precedes arena.old self.old }
+        ensures empty { self.new ≡ None }
+        ensures clears { ClearsSlots K V.key_of V.Key.precedes arena.old arena.new self.old }
+    {
+        clear_from::<V, K>(arena, self.root);
+        self.root = None;
     }
 
     /// Gives a slot of the heap the value `v`, and the place in the heap that goes with its key, and hands back the old

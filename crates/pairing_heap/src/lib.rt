@@ -1,6 +1,7 @@
 //! Pairing heaps, after Fredman, Sedgewick, Sleator and Tarjan, whose nodes are slots of an arena.
 #![tactic(auto)]
 
+mod clear;
 mod heap;
 mod key;
 pub mod laws;
