@@ -4,7 +4,7 @@ use Rattle.std.specs.Prelude.{◌==◌}
 use Rattle.std.proofs.lemmas.Bool.{cases_eq}
 use Rattle.std.proofs.lemmas.List.Sums.{sum_by-cons}
 use Rattle.link_arena.specs.Arena.{Arena, value_at, links_at, IsLive, Revalues}
-use Rattle.pairing_heap.specs.Heap.{SameElements, times_of, key_of_value, keys_at, pairs_at, Stands, Holds, Lacks, IsApart, OthersStay, RevaluesOnly, AddsPair, TakesPair, RekeysPair}
+use Rattle.pairing_heap.specs.Heap.{SameElements, times_of, key_of_value, keys_at, pairs_at, Stands, Holds, Lacks, IsApart, OthersStay, RevaluesOnly, AddsPair, TakesPair, RekeysPair, ClearsSlots}
 use Rattle.pairing_heap.specs.Laws.{AreApart, StaysApart, StaysIn}
 use Rattle.pairing_heap.proofs.Adding.{key_from_live}
 use Rattle.pairing_heap.proofs.Counts.{one, one_same, one_other}
@@ -137,3 +137,8 @@ module _ {V X : Type 0} (k : ℕ) (key_of : V → X) (precedes : X → X → Boo
   pub rekeyed_apart : (old new : Arena V) (heap later : Option ℕ) (slot : ℕ) (value : V) → IsLive old slot → Stands k key_of precedes old heap → RekeysPair k key_of precedes old new heap later slot value → (other : Option ℕ) → Stands k key_of precedes old other → AreApart k key_of precedes old heap other → StaysApart k key_of precedes old new later other
   rekeyed_apart old new heap later slot value live stands rekeys other there apart =
       apart_within old new heap later other rekeys.others (λ at. omega (arith, rekeys_slot k key_of precedes old new heap later slot value live rekeys at)) stands there apart
+
+  pub stays_cleared : (old new : Arena V) (heap : Option ℕ) → Stands k key_of precedes old heap → ClearsSlots k key_of precedes old new heap → (other : Option ℕ) → Stands k key_of precedes old other → AreApart k key_of precedes old heap other → StaysIn k key_of precedes old new other
+  stays_cleared old new heap stands clears other there apart =
+      let still = clears.others other there (apart_sum old heap other stands there apart) in
+      record { stands = still.0; same = still.1 }

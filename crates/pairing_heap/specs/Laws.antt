@@ -1,7 +1,7 @@
 -- What stays of a heap where the arena changes, and how often slots stand in it where a pair comes or goes.
 use Rattle.std.specs.Prelude.{◌≡◌, ◌≢◌, ℕ, ◌+◌, ◌≤◌, Bool, false, [], Option, Some, IsNone, IfSome, length, ◌==◌, if◌then◌else◌, ◌↔◌}
 use Rattle.link_arena.specs.Arena.{Arena, IsLive, SameMap, Inserts, Removes, Revalues}
-use Rattle.pairing_heap.specs.Heap.{times_of, keys_at, LinksOnly, RevaluesOnly, pairs_at, Stands, Holds, Lacks, SameSlots, AddsPair, TakesPair, RekeysPair}
+use Rattle.pairing_heap.specs.Heap.{times_of, keys_at, LinksOnly, RevaluesOnly, pairs_at, Stands, Holds, Lacks, SameSlots, AddsPair, TakesPair, RekeysPair, ClearsSlots}
 
 module _ {V X : Type 0} (k : ℕ) (key_of : V → X) (precedes : X → X → Bool) where
   -- each slot of a heap holds a value
@@ -151,3 +151,9 @@ module _ {V X : Type 0} (k : ℕ) (key_of : V → X) (precedes : X → X → Boo
   RekeyedStaysApart =
       (old new : Arena V) (heap later : Option ℕ) (slot : ℕ) (value : V) → IsLive old slot → Stands k key_of precedes old heap → RekeysPair k key_of precedes old new heap later slot value
       → (other : Option ℕ) → Stands k key_of precedes old other → AreApart old heap other → StaysApart old new later other
+
+  -- a heap that shares no slot with another stays where that is cleared
+  abbrev pub StaysWhereCleared : Type 0
+  StaysWhereCleared =
+      (old new : Arena V) (heap : Option ℕ) → Stands k key_of precedes old heap → ClearsSlots k key_of precedes old new heap
+      → (other : Option ℕ) → Stands k key_of precedes old other → AreApart old heap other → StaysIn old new other

@@ -1,6 +1,6 @@
 //! Laws of heaps, for whatever holds an arena. Each is the contract of a function that does nothing.
 
-ghost use Rattle.pairing_heap.specs.Laws.{HeldAreLive, SlotsStandOnce, StaysWhereSlotsStay, StaysWhereReserved, StaysWhereInserted, StaysWhereRemoved, StaysWhereRevalued, StaysWhereOtherSetChanges, AddsOneSlot, TakesOneSlot, AddedIsHeld, TakenIsLacked, RekeysNoSlot, StaysWhereKeyStays, AddsOnePair, TakesOnePair, RekeysNoPair, RekeysWherePushedAgain, RekeysWhereKeyStays, FirstIsLeast, AddedStaysApart, TakenStaysApart, RekeyedStaysApart, StaysWhereOtherSetRekeys};
+ghost use Rattle.pairing_heap.specs.Laws.{HeldAreLive, SlotsStandOnce, StaysWhereSlotsStay, StaysWhereReserved, StaysWhereInserted, StaysWhereRemoved, StaysWhereRevalued, StaysWhereOtherSetChanges, AddsOneSlot, TakesOneSlot, AddedIsHeld, TakenIsLacked, RekeysNoSlot, StaysWhereKeyStays, AddsOnePair, TakesOnePair, RekeysNoPair, RekeysWherePushedAgain, RekeysWhereKeyStays, FirstIsLeast, AddedStaysApart, TakenStaysApart, RekeyedStaysApart, StaysWhereOtherSetRekeys, StaysWhereCleared};
 
 use crate::{HeapKey, Keyed};
 
@@ -122,4 +122,9 @@ pub fn rekeyed_stays_apart<V: Keyed<K>, const K: usize>()
 /// A heap stays where a heap of the other set is rekeyed, unless the slot is in it and gets another key for it.
 pub fn stays_where_other_set_rekeys<V: Keyed<K>, const K: usize>()
     ensures { StaysWhereOtherSetRekeys K V.key_of V.Key.precedes }
+{}
+
+/// A heap that shares no slot with another stays where that is cleared.
+pub fn stays_where_cleared<V: Keyed<K>, const K: usize>()
+    ensures { StaysWhereCleared K V.key_of V.Key.precedes }
 {}

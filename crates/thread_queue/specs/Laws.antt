@@ -9,7 +9,7 @@ use Rattle.link_arena.specs.Arena.{Arena, Inserts, IsLive, Removes as Frees, Rev
 use Rattle.pairing_heap.specs.Heap.{LinksOnly, SameSlots}
 use Rattle.pairing_heap.specs.Laws.{AreApart}
 use Rattle.thread_queue.specs.Item.{entry_of, foreign_key_of_item, foreign_precedes, key_of_item, key_precedes}
-use Rattle.thread_queue.specs.Queue.{HasSlot, IsFirst, LacksSlot, Pushes, Queue, Removes, Settles, StandsIn, members, times_in}
+use Rattle.thread_queue.specs.Queue.{Clears, HasSlot, IsFirst, LacksSlot, Pushes, Queue, Removes, Settles, StandsIn, members, times_in}
 use Rattle.thread_queue.specs.declared.item.Item.{Item}
 
 -- each slot of a queue holds an item
@@ -95,6 +95,12 @@ abbrev pub SettledStaysApart : Type 0
 SettledStaysApart =
     (old new : Arena Item) (queue later : Queue) (slot usage seen pri : ℕ) → IsLive old slot → StandsIn old queue → Settles old new queue later slot usage seen pri
     → (other : Queue) → StandsIn old other → QueuesApart old queue other → StaysApart old new later other
+
+-- a queue that shares no slot with another stays where that is cleared
+abbrev pub StaysWhereCleared : Type 0
+StaysWhereCleared =
+    (old new : Arena Item) (queue : Queue) → StandsIn old queue → Clears old new queue
+    → (other : Queue) → StandsIn old other → QueuesApart old queue other → StaysIn old new other
 
 -- the entries are those of the queue's slots
 pub record AreEntries (arena : Arena Item) (queue : Queue) (entries : List Queued) : Type 0 where

@@ -2,7 +2,7 @@
 use Rattle.std.specs.Prelude.{List, Option, false, if◌then◌else◌, length, Some, ℕ, ◌+◌, ◌==◌, ◌≡◌}
 use Rattle.flat_policy.specs.Precedence.{precedes}
 use Rattle.link_arena.specs.Arena.{Arena, links_at, value_at}
-use Rattle.pairing_heap.specs.Heap.{AddsPair, Holds, IsApart, Lacks, RekeysPair, Stands, TakesPair, pairs_at, times_of}
+use Rattle.pairing_heap.specs.Heap.{AddsPair, ClearsSlots, Holds, IsApart, Lacks, RekeysPair, Stands, TakesPair, pairs_at, times_of}
 use Rattle.thread_queue.specs.Item.{entry_of, key_of_item, key_precedes, settled_item}
 use Rattle.thread_queue.specs.declared.item.Item.{Item}
 use Rattle.thread_queue.specs.declared.item.ItemKey.{ItemKey}
@@ -60,6 +60,11 @@ pub record Removes (old new : Arena Item) (queue later : Queue) (slot : ℕ) : T
   pub takes : TakesPair 0 key_of_item key_precedes old new queue.root later.root slot
   pub slots : (other : ℕ) → times_in old queue other ≡ (if slot == other then 1 else 0) + times_in new later other
   pub count : later.count + 1 ≡ queue.count
+  pub queues : OtherQueuesStay old new (times_in old queue)
+
+-- the links of set 0 of each of the queue's slots lead nowhere; the rest stays
+pub record Clears (old new : Arena Item) (queue : Queue) : Type 0 where
+  pub clears : ClearsSlots 0 key_of_item key_precedes old new queue.root
   pub queues : OtherQueuesStay old new (times_in old queue)
 
 -- the queue and every link stay

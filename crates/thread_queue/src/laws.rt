@@ -1,6 +1,6 @@
 //! Laws of queues, for whatever holds an arena. Each is the contract of a function that does nothing.
 
-ghost use Rattle.thread_queue.specs.Laws.{SlotsAreLive, StaysWhereSlotsStay, StaysWhereInserted, StaysWhereRemoved, FirstIsChosen, ForeignKeysOrderEntries, ItemKeysOrderEntries, SlotsStandOnce, StaysWhereReserved, StaysWhereOtherSetChanges, StaysWhereRevalued, StaysWhereKeyStays, PushedIsHeld, RemovedIsLacked, PushedStaysApart, RemovedStaysApart, SettledStaysApart};
+ghost use Rattle.thread_queue.specs.Laws.{SlotsAreLive, StaysWhereSlotsStay, StaysWhereInserted, StaysWhereRemoved, FirstIsChosen, ForeignKeysOrderEntries, ItemKeysOrderEntries, SlotsStandOnce, StaysWhereReserved, StaysWhereOtherSetChanges, StaysWhereRevalued, StaysWhereKeyStays, PushedIsHeld, RemovedIsLacked, PushedStaysApart, RemovedStaysApart, SettledStaysApart, StaysWhereCleared};
 
 use crate::Item;
 use pairing_heap::laws as heaps;
@@ -116,4 +116,11 @@ pub fn settled_stays_apart()
     ensures { SettledStaysApart }
 {
     heaps::rekeyed_stays_apart::<Item, 0>();
+}
+
+/// A queue that shares no slot with another stays where that is cleared.
+pub fn stays_where_cleared()
+    ensures { StaysWhereCleared }
+{
+    heaps::stays_where_cleared::<Item, 0>();
 }

@@ -3,7 +3,7 @@ ghost use Rattle.link_arena.specs.Arena.{Arena as Map, IsLive, value_at, Revalue
 ghost use Rattle.pairing_heap.specs.Laws.{HeldAreLive, FirstIsLeast, AddsOneSlot, AddsOnePair, TakesOneSlot, TakesOnePair, TakenIsLacked, StaysWhereRevalued, RekeysNoSlot, RekeysNoPair, RekeysWherePushedAgain, RekeysWhereKeyStays};
 ghost use Rattle.thread_queue.specs.Item.{key_of_item, key_precedes, settled_item};
 ghost use Rattle.thread_queue.specs.declared.item.Item.{Item as Stored};
-ghost use Rattle.thread_queue.specs.Queue.{StandsIn, HasSlot, LacksSlot, IsFirst, Pushes, Removes, Settles, StaysInPlace, members};
+ghost use Rattle.thread_queue.specs.Queue.{StandsIn, HasSlot, LacksSlot, IsFirst, Pushes, Removes, Settles, StaysInPlace, Clears, members};
 
 use crate::Item;
 use link_arena::Arena;
@@ -87,6 +87,16 @@ impl ThreadQueue {
         heap_laws();
         self.heap.remove(arena, slot, steps);
         self.count -= 1;
+    }
+
+    /// Takes all slots out, whose links of set 0 lead nowhere then. Nothing is compared.
+    pub fn clear(&mut self, arena: &mut Arena<Item>)
+        requires { StandsIn arena.old self.old }
+        ensures empty { self.new ≡ record { root = None; count = 0 } }
+        ensures clears { Clears arena.old arena.new self.old }
+    {
+        self.heap.clear(arena);
+        self.count = 0;
     }
 
     /// Settles the thread of a slot of the queue at the moment `seen` (microseconds), with `usage` (microseconds), and
