@@ -1,7 +1,7 @@
 -- The first slot of a queue is one whose entry no other precedes.
-use Rattle.std.proofs.Common.{◌≡◌, ℕ, Option, Some, None, IfSome, refl, sym, ap, subst, ◌∙◌}
-use Rattle.link_arena.specs.Arena.{Arena, IsLive, value_at}
-use Rattle.pairing_heap.specs.Heap.{Holds, Stands, key_of_value}
+use Rattle.std.proofs.Common.{◌≡◌, ℕ, Option, Some, None, IfSome, refl, sym, ap, subst}
+use Rattle.link_arena.specs.Arena.{Arena}
+use Rattle.pairing_heap.specs.Heap.{Stands, key_of_value}
 use Rattle.pairing_heap.specs.Laws.{FirstIsLeast, HeldAreLive}
 use Rattle.thread_queue.specs.Item.{key_of_item, key_precedes}
 use Rattle.thread_queue.specs.Queue.{IsFirst, Queue, StandsIn}

@@ -1,5 +1,5 @@
 -- A slot gets a settled item, and its place with it.
-use Rattle.std.proofs.Common.{◌≡◌, ℕ, Option, Some, ap, ◌∙◌, arith}
+use Rattle.std.proofs.Common.{◌≡◌, ℕ, Some, arith}
 use Rattle.link_arena.specs.Arena.{Arena, IsLive, value_at}
 use Rattle.pairing_heap.specs.Heap.{RekeysPair}
 use Rattle.pairing_heap.specs.Laws.{RekeysNoPair, RekeysNoSlot}

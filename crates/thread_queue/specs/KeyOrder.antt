@@ -1,5 +1,5 @@
 -- Why the keys of items are strictly ordered. No public clause cites this module.
-use Rattle.std.specs.Prelude.{Bool, false, int_lt, nat_lt, true, ℕ, ◌&&◌, ◌==◌, ◌||◌, ◌≡◌}
+use Rattle.std.specs.Prelude.{false, int_lt, nat_lt, true, ℕ, ◌&&◌, ◌==◌, ◌||◌, ◌≡◌}
 use Rattle.std.proofs.Common.{ap, ◌∙◌}
 use Rattle.flat_policy.proofs.Lexical.{by_number_irreflexive, falls_total, falls_transitive, int_irreflexive, int_total, int_transitive, rises_total, rises_transitive}
 use Rattle.pairing_heap.specs.Order.{IsStrictOrder}

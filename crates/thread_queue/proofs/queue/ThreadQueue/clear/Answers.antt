@@ -1,6 +1,4 @@
 -- The heap is cleared.
-use Rattle.std.proofs.Common.{refl, sym, subst, ap}
-use Rattle.thread_queue.specs.Queue.{Queue, StandsIn}
 use Rattle.thread_queue.proofs.Members.{queues_stay}
 use Rattle.thread_queue.proofs.queue.ThreadQueue.clear.Goals as goal
 

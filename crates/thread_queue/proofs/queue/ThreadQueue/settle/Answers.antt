@@ -1,10 +1,9 @@
 -- The item is written where it stands, or taken out, written and pushed again.
-use Rattle.std.proofs.Common.{Option, Some, ap, is_some, ◌∙◌, lit<, refl, sym, subst, ◌≡◌, ℕ}
+use Rattle.std.proofs.Common.{Option, Some, ap, is_some, ◌∙◌, lit<, refl, sym, subst, ℕ}
 use Rattle.pairing_heap.specs.Heap.{key_of_value, times_of}
 use Rattle.thread_queue.specs.Item.{key_of_item, settled_item}
 use Rattle.thread_queue.specs.Queue.{Queue, StandsIn}
 use Rattle.thread_queue.specs.declared.item.Item.{Item}
-use Rattle.thread_queue.specs.declared.item.ItemKey.{ItemKey}
 use Rattle.thread_queue.proofs.Settled.{settles}
 use Rattle.thread_queue.proofs.queue.ThreadQueue.settle.Goals as goal
 
