@@ -1,14 +1,13 @@
 -- Heaps that share no slot stay so, slots that are written in place, and how many pairs a heap has.
-use Rattle.std.proofs.Common.{◌≡◌, ◌≢◌, ℕ, ◌+◌, ◌<◌, ◌≤◌, Bool, true, List, [], ◌∷◌, Option, Some, length, count_by, cond, refl, sym, ap, ◌∙◌, inl, inr, arith}
-use Rattle.std.specs.Prelude.{◌==◌}
+use Rattle.std.proofs.Common.{◌≡◌, ◌≢◌, ℕ, ◌+◌, ◌≤◌, Bool, true, List, [], ◌∷◌, Option, Some, length, count_by, cond, refl, sym, ap, ◌∙◌, inl, inr, arith}
 use Rattle.std.proofs.lemmas.Bool.{cases_eq}
 use Rattle.std.proofs.lemmas.List.Sums.{sum_by-cons}
-use Rattle.link_arena.specs.Arena.{Arena, value_at, links_at, IsLive, Revalues}
+use Rattle.link_arena.specs.Arena.{Arena, value_at, IsLive, Revalues}
 use Rattle.pairing_heap.specs.Heap.{SameElements, times_of, key_of_value, keys_at, pairs_at, Stands, Holds, Lacks, IsApart, OthersStay, RevaluesOnly, AddsPair, TakesPair, RekeysPair, ClearsSlots}
 use Rattle.pairing_heap.specs.Laws.{AreApart, StaysApart, StaysIn}
 use Rattle.pairing_heap.proofs.Adding.{key_from_live}
-use Rattle.pairing_heap.proofs.Counts.{one, one_same, one_other}
-use Rattle.pairing_heap.proofs.Rekeying.{Rekeys, Stands-revalued, live_held}
+use Rattle.pairing_heap.proofs.Counts.{one_other}
+use Rattle.pairing_heap.proofs.Rekeying.{Rekeys, live_held}
 use Rattle.pairing_heap.proofs.Size.{none_or_some}
 use Rattle.pairing_heap.proofs.Staying.{stays, once, adds_slot, takes_slot, rekeys_slot}
 

@@ -1,5 +1,5 @@
 -- A heap is taken apart root by root.
-use Rattle.std.proofs.Common.{◌≡◌, ◌≢◌, ℕ, zero, suc, ◌+◌, ◌*◌, ◌<◌, ◌≤◌, Bool, true, Option, Some, None, length, refl, sym, ap, subst, ◌∙◌, inl, inr, arith}
+use Rattle.std.proofs.Common.{◌≡◌, ◌≢◌, ℕ, zero, suc, ◌+◌, ◌<◌, ◌≤◌, Bool, true, Option, Some, None, length, refl, sym, ap, subst, ◌∙◌, inl, inr, arith}
 use Rattle.std.specs.Prelude.{◌==◌}
 use Rattle.std.proofs.lemmas.Bool.{cases_eq, cases_lt}
 use Rattle.link_arena.specs.declared.arena.Links.{Links}
@@ -7,7 +7,7 @@ use Rattle.link_arena.specs.Arena.{Arena, value_at, links_at, IsLive, unlinked, 
 use Rattle.pairing_heap.specs.Tree.{Tree, leaf, node, tally, slot_count, tree_from, Joined}
 use Rattle.pairing_heap.specs.Heap.{key_of_value, keys_at, tree_at, times_of, pairs_at, Stands, ClearsSlots, LinksOnly}
 use Rattle.pairing_heap.specs.Forest.{Hangs, effort, Forest, Loosens, LoosensOne}
-use Rattle.pairing_heap.proofs.Counts.{one, one_same, one_other, slot_count-root, apart}
+use Rattle.pairing_heap.proofs.Counts.{one, one_same, one_other, slot_count-root}
 use Rattle.pairing_heap.proofs.Frame.{Kept, Kept-children, Kept-rest}
 use Rattle.pairing_heap.proofs.Melding.{live_from_key}
 use Rattle.pairing_heap.proofs.Pairing.{LinksOnly-same, LinksOnly-then, LinksOnly-relinks}

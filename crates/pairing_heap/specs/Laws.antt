@@ -80,11 +80,11 @@ module _ {V X : Type 0} (k : ℕ) (key_of : V → X) (precedes : X → X → Boo
       (old new : Arena V) (heap later : Option ℕ) (slot : ℕ) → Stands k key_of precedes old heap → TakesPair k key_of precedes old new heap later slot
       → length (pairs_at k key_of old heap) ≡ length (pairs_at k key_of new later) + 1
 
-  -- so the heap has the slot of a pair that came in
+  -- the heap has the slot of a pair that came in
   abbrev pub AddedIsHeld : Type 0
   AddedIsHeld = (old new : Arena V) (heap later : Option ℕ) (slot : ℕ) → IsLive old slot → AddsPair k key_of precedes old new heap later slot → Holds k key_of new later slot
 
-  -- and it has not the slot of a pair that went out
+  -- the heap has not the slot of a pair that went out
   abbrev pub TakenIsLacked : Type 0
   TakenIsLacked = (old new : Arena V) (heap later : Option ℕ) (slot : ℕ) → Stands k key_of precedes old heap → TakesPair k key_of precedes old new heap later slot → Lacks k key_of new later slot
 
