@@ -1,3 +1,4 @@
-pub mod CellLemmas
-pub mod SoundLemmas
+pub mod NodeLemmas
 pub mod MapLemmas
+pub mod LenLemmas
+pub mod SoundLemmas

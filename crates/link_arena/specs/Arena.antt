@@ -1,5 +1,5 @@
 -- What a contract sees of an `Arena`: a finite map from slots to values with two link sets, and a number.
-use Rattle.std.specs.Prelude.{◌≡◌, ◌≢◌, ℕ, zero, suc, List, Option, Some, None, IsSome, slice_index_or, slice_set, refl}
+use Rattle.std.specs.Prelude.{◌≡◌, ◌≢◌, ℕ, zero, suc, List, Option, Some, None, IsSome, is_some, count_by, slice_index_or, slice_set, refl}
 use Rattle.std.specs.Coded.{Coded, code_by, coded×, coded_ℕ, coded_list, coded_option}
 use Rattle.link_arena.specs.declared.arena.Links.{Links}
 
@@ -80,6 +80,10 @@ module _ {V : Type 0} where
   -- the slot holds a value
   abbrev pub IsLive : Arena V → ℕ → Type 0
   IsLive a slot = IsSome (value_at a slot)
+
+  -- how many slots hold a value
+  abbrev pub live_count : Arena V → ℕ
+  live_count a = count_by is_some a.nodes
 
   -- every slot has the same value and the same links
   pub record SameMap (old new : Arena V) : Type 0 where

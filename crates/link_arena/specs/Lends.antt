@@ -3,12 +3,7 @@ use Rattle.std.specs.Prelude.{ℕ}
 use Rattle.std.specs.Borrow.{Lends, Fml, RattleType, MutBor}
 use Rattle.link_arena.specs.Arena.{Arena, with_value}
 use Rattle.link_arena.specs.contracts.arena.Arena.{the_row}
-use Rattle.link_arena.specs.contracts.kept.Kept as kept
 
 -- once the borrow r ends, the slot has the last value written through r
 abbrev pub LendsValue : (V : RattleType) → MutBor (Arena V.Denot) → ℕ → MutBor V.Denot → Fml
 LendsValue V a slot r = Lends (the_row V) V a r (with_value a.now slot)
-
--- once the borrow r ends, the kept value is the last one written through r
-abbrev pub LendsKept : (V : RattleType) → MutBor V.Denot → MutBor V.Denot → Fml
-LendsKept V a r = Lends (kept.the_row V) V a r (λ w. w)

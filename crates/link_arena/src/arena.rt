@@ -1,6 +1,5 @@
-ghost use Rattle.std.specs.Prelude.{◌≡◌, ◌≢◌, ℕ, ◌+◌, ◌<◌, ◌≤◌, [], Some, None, IfOk, OnOk, OnErr, IfSome, IfNone, IsTrue, ◌↔◌, ◌^◌};
+ghost use Rattle.std.specs.Prelude.{◌≡◌, ◌≢◌, ℕ, ◌+◌, ◌<◌, ◌≤◌, [], Some, None, IfOk, OnOk, OnErr, IfSome, IfNone, IsTrue, ◌↔◌, ◌^◌, vec_capacity, vec_len, slice_index_or};
 
-use crate::kept::Kept;
 use slab::Slab;
 use std::alloc::{AllocError, Global};
 use std::marker::Model;
@@ -14,54 +13,46 @@ pub struct Links {
     pub prev: Option<u32>,
 }
 
-// What the slab holds under each key that it gave out. A cell with no value waits for one.
-struct Cell<V> {
-    value: Option<Kept<V>>,
+// The links of a slot, which the slab has under the slot's number.
+#[derive(Clone, Copy)]
+struct Cell {
     first: Links,
     second: Links,
-}
-
-// A cell may be let go of whatever `V` is, as the slab asks. So the arena, before it ends, takes each value out.
-impl<V> Drop for Cell<V> {
-    fn drop(self) {
-        let Cell {
-            value: _,
-            first: _,
-            second: _,
-        } = self;
-    }
 }
 
 /// Values, each under a slot that the arena picks, with two sets of links among the slots.
 ///
 /// A slot keeps its value and its links until it is removed, and only then is it given out again.
 pub struct Arena<V> {
-    cells: Slab<Cell<V>>,
-    // The keys of the cells that wait for a value. It has room for the key of every cell.
+    cells: Slab<Cell>,
+    // The value at each slot, and none at a slot that is free.
+    values: Vec<Option<V>>,
+    // The slots that are free. It has room for every slot of the slab.
     free: Vec<u32>,
 }
 
 impl<V> Model for Arena<V> {
-    ghost use Rattle.std.specs.Prelude.{map, vec_len, vec_capacity};
+    ghost use Rattle.std.specs.Prelude.{vec_len, vec_capacity};
     ghost use Rattle.link_arena.specs.Arena.{Arena as Map, arena_code};
 
     ghost Value = { Map V };
 
     ghost coded = { arena_code V.code };
 
-    ghost use Rattle.link_arena.specs.Sound.{node_of, IsSound};
+    ghost use Rattle.link_arena.specs.Sound.{nodes_of, IsSound};
 
-    ghost view = { λ a. record { nodes = map node_of a.cells.slots; spare = vec_len a.free } };
+    ghost view = { λ a. record { nodes = nodes_of a.cells.slots a.values.items; spare = vec_len a.free } };
 
-    ghost invariant = { λ a. IsSound a.cells a.free.items (vec_capacity a.free) };
+    ghost invariant = { λ a. IsSound a.cells a.values.items a.free.items (vec_capacity a.free) };
 }
 
 impl<V: Drop> Drop for Arena<V> {
     fn drop(self) {
-        let Arena { cells, free: _ } = self;
-        for (_, cell) in cells {
-            cell.end();
-        }
+        let Arena {
+            cells: _,
+            values: _,
+            free: _,
+        } = self;
     }
 }
 
@@ -74,8 +65,13 @@ impl Links {
     };
 }
 
-impl<V> Cell<V> {
+impl Cell {
     ghost use Rattle.link_arena.specs.Sound.{cell_with_links};
+
+    const EMPTY: Cell = Cell {
+        first: Links::NONE,
+        second: Links::NONE,
+    };
 
     fn set_links(&mut self, k: usize, l: Links)
         ensures { self.new ≡ cell_with_links k l self.old }
@@ -88,22 +84,8 @@ impl<V> Cell<V> {
     }
 }
 
-impl<V: Drop> Cell<V> {
-    // Drops the value too.
-    fn end(self) {
-        let Cell {
-            value,
-            first: _,
-            second: _,
-        } = self;
-        if let Some(kept) = value {
-            let _value = kept.into_inner();
-        }
-    }
-}
-
 impl<V> Arena<V> {
-    ghost use Rattle.link_arena.specs.Arena.{value_at, links_at, unlinked, IsLive, SameMap, Inserts, Removes, Relinks, Revalues, with_value};
+    ghost use Rattle.link_arena.specs.Arena.{value_at, links_at, unlinked, IsLive, SameMap, Inserts, Removes, Relinks, Revalues, with_value, live_count};
     ghost use Rattle.link_arena.specs.Lends.{LendsValue};
     ghost use Rattle.std.specs.Borrow.{sem};
 
@@ -113,6 +95,7 @@ impl<V> Arena<V> {
     {
         Ok(Arena {
             cells: Slab::new(alloc),
+            values: Vec::new(alloc),
             free: Vec::new(alloc),
         })
     }
@@ -121,7 +104,18 @@ impl<V> Arena<V> {
     pub fn destroy_empty(self)
         requires { (slot : ℕ) → value_at self slot ≡ None }
     {
-        let Arena { cells: _, free: _ } = self;
+        let Arena {
+            cells: _,
+            mut values,
+            free: _,
+        } = self;
+        while let Some(value) = values.pop() {
+            match value {
+                None => {}
+                Some(_) => unreachable!(),
+            }
+        }
+        values.destroy_empty();
     }
 
     /// Makes room for one value more at least, which is the only way to take memory. An error changes nothing, and comes
@@ -129,22 +123,23 @@ impl<V> Arena<V> {
     pub fn reserve(&mut self) -> Result<(), AllocError>
         ensures spare { OnOk result (self.old.spare < self.new.spare) }
         ensures map { OnOk result (SameMap self.old self.new) }
+        ensures len { OnOk result (live_count self.new ≡ live_count self.old) }
         ensures err { OnErr result (self.new ≡ self.old) }
     {
-        let Ok(key) = u32::try_from(self.cells.vacant_key()) else {
+        let key = self.cells.vacant_key();
+        let Ok(number) = u32::try_from(key) else {
             return Err(AllocError);
         };
         let Some(cells) = self.cells.len().checked_add(1) else {
             return Err(AllocError);
         };
         self.free.reserve(cells - self.free.len())?;
+        self.values
+            .reserve((key + 1).saturating_sub(self.values.len()))?;
         self.cells.reserve(1)?;
-        self.cells.insert_reserved(Cell {
-            value: None,
-            first: Links::NONE,
-            second: Links::NONE,
-        });
-        self.free.push_reserved(key);
+        self.cells.insert_reserved(Cell::EMPTY);
+        lengthen(&mut self.values, key + 1);
+        self.free.push_reserved(number);
         Ok(())
     }
 
@@ -153,12 +148,11 @@ impl<V> Arena<V> {
         requires { 0 < self.old.spare }
         ensures inserts { Inserts self.old self.new result v }
         ensures spare { self.new.spare + 1 ≡ self.old.spare }
+        ensures len { live_count self.new ≡ live_count self.old + 1 }
     {
         let slot = self.free.pop().unwrap();
-        let cell = &mut self.cells[slot as usize];
-        cell.first = Links::NONE;
-        cell.second = Links::NONE;
-        match mem::replace(&mut cell.value, Some(Kept::new(v))) {
+        self.cells[slot as usize] = Cell::EMPTY;
+        match mem::replace(&mut self.values[slot as usize], Some(v)) {
             None => {}
             Some(_) => unreachable!(),
         }
@@ -173,11 +167,11 @@ impl<V> Arena<V> {
         ensures value { value_at self.old slot ≡ Some result }
         ensures removes { Removes self.old self.new slot }
         ensures spare { self.new.spare ≡ self.old.spare + 1 }
+        ensures len { live_count self.new + 1 ≡ live_count self.old }
     {
-        let cell = &mut self.cells[slot as usize];
-        let value = cell.value.take().unwrap();
+        let value = self.values[slot as usize].take().unwrap();
         self.free.push_reserved(slot);
-        value.into_inner()
+        value
     }
 
     /// The value in a slot.
@@ -185,9 +179,8 @@ impl<V> Arena<V> {
         requires { IsLive self.now slot }
         ensures { value_at self.now slot ≡ Some result.now }
     {
-        let cell = &self.cells[slot as usize];
-        match &cell.value {
-            Some(value) => value.get(),
+        match &self.values[slot as usize] {
+            Some(value) => value,
             None => unreachable!(),
         }
     }
@@ -198,9 +191,9 @@ impl<V> Arena<V> {
         ensures* writes_back { sem 𝓛 (LendsValue V.row self.entry slot result) }
         ensures value { value_at self.old slot ≡ Some result.now }
         ensures revalues { (v : V) → Revalues self.old (with_value self.old slot v) slot v }
+        ensures len { (v : V) → live_count (with_value self.old slot v) ≡ live_count self.old }
     {
-        let cell = &mut self.cells[slot as usize];
-        cell.value.as_mut().unwrap().get_mut()
+        self.values[slot as usize].as_mut().unwrap()
     }
 
     /// Puts `v` in the place of the value in a slot, which comes back. Links stay.
@@ -209,12 +202,9 @@ impl<V> Arena<V> {
         ensures value { value_at self.old slot ≡ Some result }
         ensures revalues { Revalues self.old self.new slot v }
         ensures spare { self.new.spare ≡ self.old.spare }
+        ensures len { live_count self.new ≡ live_count self.old }
     {
-        let cell = &mut self.cells[slot as usize];
-        match mem::replace(&mut cell.value, Some(Kept::new(v))) {
-            Some(value) => value.into_inner(),
-            None => unreachable!(),
-        }
+        mem::replace(&mut self.values[slot as usize], Some(v)).unwrap()
     }
 
     /// The links of set `k`, which is 0 or 1, at a slot.
@@ -233,6 +223,7 @@ impl<V> Arena<V> {
         requires set { k < 2 }
         ensures relinks { Relinks self.old self.new k slot l }
         ensures spare { self.new.spare ≡ self.old.spare }
+        ensures len { live_count self.new ≡ live_count self.old }
     {
         let cell = &mut self.cells[slot as usize];
         cell.set_links(k, l);
@@ -245,21 +236,54 @@ impl<V> Arena<V> {
         ensures least { IfSome result (λ slot. (other : ℕ) → from ≤ other → other < slot → value_at self.now other ≡ None) }
         ensures none { IfNone result ((other : ℕ) → from ≤ other → value_at self.now other ≡ None) }
     {
-        for key in from as usize..self.cells.capacity() {
-            if self.is_live(key) {
+        for key in from as usize..self.values.len() {
+            if self.has_value(key) {
                 return Some(key as u32);
             }
         }
         None
     }
 
-    fn is_live(&self, key: usize) -> bool
+    /// Whether a slot holds a value. No other slot is looked at.
+    pub fn is_live(&self, slot: u32) -> bool
+        ensures { IsTrue result ↔ IsLive self.now slot }
+    {
+        self.has_value(slot as usize)
+    }
+
+    /// How many slots hold a value.
+    pub fn len(&self) -> usize
+        ensures { result ≡ live_count self.now }
+    {
+        self.cells.len() - self.free.len()
+    }
+
+    /// How many values can be stored before memory is taken.
+    pub fn spare(&self) -> usize
+        ensures { result ≡ self.now.spare }
+    {
+        self.free.len()
+    }
+
+    fn has_value(&self, key: usize) -> bool
         ensures live { IsTrue result ↔ IsLive self.now key }
         ensures small { IsTrue result → key < 2 ^ 32 }
     {
-        match self.cells.get(key) {
-            Some(cell) => cell.value.is_some(),
-            None => false,
+        if self.values.len() <= key {
+            return false;
         }
+        self.values[key].is_some()
+    }
+}
+
+// Makes a list of values at least so long, by places with no value.
+fn lengthen<V>(values: &mut Vec<Option<V>>, len: usize)
+    requires { len ≤ vec_capacity values.old }
+    ensures longer { vec_len values.old ≤ vec_len values.new }
+    ensures long { len ≤ vec_len values.new }
+    ensures same { (k : ℕ) → slice_index_or values.new.items k None ≡ slice_index_or values.old.items k None }
+{
+    for place in values.len()..len {
+        values.push_reserved(None);
     }
 }

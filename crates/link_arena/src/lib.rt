@@ -2,7 +2,6 @@
 #![tactic(auto)]
 
 mod arena;
-mod kept;
 #[cfg(test)]
 mod tests;
 

@@ -8,9 +8,18 @@ fn slots_values_and_links(rt: HostRuntime) -> Result<(), Fail> {
     let mut arena: Arena<u32> = Arena::new(rt.alloc())?;
     assert_eq!(rt; arena.next_live(0), None);
     arena.reserve()?;
+    let spare = arena.spare();
     let a = arena.insert_reserved(10);
+    assert_eq!(rt;
+        (arena.len(), arena.spare() + 1, arena.is_live(a)),
+        (1, spare, true)
+    );
     let removed = arena.remove(a);
     assert_eq!(rt; removed, 10);
+    assert_eq!(rt;
+        (arena.len(), arena.spare(), arena.is_live(a)),
+        (0, spare, false)
+    );
     assert_eq!(rt; arena.next_live(0), None);
     let b = arena.insert_reserved(20);
     assert_eq!(rt; b, a);

@@ -14,4 +14,5 @@ pub mod Joining
 pub mod Removing
 pub mod Rekeying
 pub mod Staying
-pub mod Both
+pub mod Apart
+pub mod Clearing

@@ -1,16 +1,16 @@
 -- What taking a slot out of the middle makes of a heap.
-use Rattle.std.proofs.Common.{◌≡◌, ◌≢◌, ℕ, ◌+◌, ◌<◌, ◌≤◌, Bool, Option, Some, None, IsSome, count_by, cond, refl, sym, ap, subst, ◌∙◌, arith}
+use Rattle.std.proofs.Common.{◌≡◌, ◌≢◌, ℕ, ◌+◌, ◌<◌, ◌≤◌, Bool, true, Option, Some, None, IsSome, length, count_by, cond, refl, sym, ap, subst, ◌∙◌, arith}
 use Rattle.std.specs.Prelude.{◌==◌}
 use Rattle.link_arena.specs.Arena.{Arena, value_at, links_at, IsLive, unlinked, Relinks}
 use Rattle.pairing_heap.specs.Tree.{Tree, leaf, tally, slot_count, Joined}
 use Rattle.pairing_heap.specs.Heap.{times_of, key_of_value, keys_at, tree_at, pairs_at, Stands, Holds, LinksOnly, TakesPair}
-use Rattle.pairing_heap.specs.Chain.{solo, IsRoot, Unhooks, CanUnhook, KeepsRest, Split, split_tally, Joins}
+use Rattle.pairing_heap.specs.Chain.{solo, siblings, IsRoot, Unhooks, CanUnhook, KeepsRest, Split, split_tally, Joins}
 use Rattle.pairing_heap.proofs.Counts.{one, one_same, one_other, apart}
-use Rattle.pairing_heap.proofs.Size.{keyed-joined}
+use Rattle.pairing_heap.proofs.Size.{keyed-joined, siblings-most}
 use Rattle.pairing_heap.proofs.Frame.{Kept, IsRoot-kept, IsChain-kept, IsChain-joined}
 use Rattle.pairing_heap.proofs.Melding.{live_from_key}
 use Rattle.pairing_heap.proofs.Pairing.{LinksOnly-relinks, LinksOnly-then}
-use Rattle.pairing_heap.proofs.Standing.{no_root, count_by-stands}
+use Rattle.pairing_heap.proofs.Standing.{no_root, count_by-stands, length-pairs}
 use Rattle.pairing_heap.proofs.Taking.{Takes-links, root_of}
 use Rattle.pairing_heap.proofs.Cutting.{pred_in, next_in}
 use Rattle.pairing_heap.proofs.Cuts.{cut_below, cut_in}
@@ -180,6 +180,17 @@ module _ {V X : Type 0} (k : ℕ) (key_of : V → X) (precedes : X → X → Boo
   Takes-inner-at old mid new root slot result at is stands outside joins =
       let moved = subst (λ (a : Option ℕ). (was : Split k key_of precedes mid root a) → (links_at mid k root).next ≡ None → (links_at mid k root).prev ≡ None → Joins k key_of precedes mid new root a result was) (sym is) joins in
       Takes-inner old mid new root slot result stands outside (moved outside.split outside.next outside.prev)
+
+  -- the slot and the root are no children of the slot
+  below-most : (old mid : Arena V) (root slot : ℕ) (outside : Outside old mid root slot) → siblings outside.split.left + 2 ≤ length (pairs_at k key_of old (Some root))
+  below-most old mid root slot outside =
+      omega (arith, outside.nodes (λ _. true), siblings-most outside.split.left, length-pairs (tree_at k key_of old (Some root)), count_by-stands k key_of precedes old (Some root) (λ _. true))
+
+  -- so a merge of the slot's children and the rest compares less often than the heap has pairs
+  pub Spent-at : (old mid : Arena V) (root slot start steps : ℕ) (at : Option ℕ) → (links_at old k slot).child ≡ at → Outside old mid root slot → ((was : Split k key_of precedes mid root at) → steps ≤ start + (siblings was.left + 1)) → steps ≤ start + length (pairs_at k key_of old (Some root))
+  Spent-at old mid root slot start steps at is outside most =
+      let moved = subst (λ (a : Option ℕ). (was : Split k key_of precedes mid root a) → steps ≤ start + (siblings was.left + 1)) (sym is) most in
+      omega (arith, moved outside.split, below-most old mid root slot outside)
 
   pub Split-at : (old mid : Arena V) (root slot : ℕ) (at : Option ℕ) → (links_at old k slot).child ≡ at → Outside old mid root slot → Split k key_of precedes mid root at
   Split-at old mid root slot at is outside = subst (λ (a : Option ℕ). Split k key_of precedes mid root a) is outside.split

@@ -3,7 +3,7 @@ use Rattle.std.proofs.Common.{◌≡◌, ◌⊎◌, ℕ, zero, suc, ◌+◌, ◌
 use Rattle.std.proofs.lemmas.Bool.{cases_eq}
 use Rattle.link_arena.specs.declared.arena.Links.{Links}
 use Rattle.pairing_heap.specs.Tree.{Tree, leaf, node, tally, slot_count, tree_from, Joined}
-use Rattle.pairing_heap.specs.Chain.{IsChain}
+use Rattle.pairing_heap.specs.Chain.{IsChain, siblings}
 use Rattle.pairing_heap.proofs.Counts.{one, one_same, one_other}
 
 -- how many nodes a tree has
@@ -59,6 +59,11 @@ module _ {X : Type 0} where
   -- a tree without repetition has no more nodes than there are slots
   pub size-most : (n : ℕ) (tree : Tree X) → ((slot : ℕ) → slot_count slot tree ≤ 1) → ((slot : ℕ) → 0 < slot_count slot tree → slot < n) → size tree ≤ n
   size-most n tree once below = omega (arith, size-sum n tree below, sum_below-most n (λ slot. slot_count slot tree) once)
+
+  -- roots are nodes
+  pub siblings-most : (tree : Tree X) → siblings tree ≤ size tree
+  siblings-most leaf = omega arith
+  siblings-most (node key slot children rest) = omega (arith, siblings-most rest)
 
   tree_from-step : (keys : ℕ → Option X) (links : ℕ → Links) (depth slot : ℕ) (key : X) (at : Option ℕ) → at ≡ Some slot → keys slot ≡ Some key → tree_from keys links (suc depth) at ≡ node key slot (tree_from keys links depth (links slot).child) (tree_from keys links depth (links slot).next)
   tree_from-step keys links depth slot key at is keyed = rw is (rw keyed refl)

@@ -1,5 +1,5 @@
 -- What it is that a heap stands in an arena.
-use Rattle.std.proofs.Common.{◌≡◌, ℕ, ◌+◌, ◌<◌, ◌≤◌, Bool, List, ◌∷◌, ◌++◌, Option, Some, None, length, count_by, cond, refl, sym, ap, subst, ◌∙◌, arith}
+use Rattle.std.proofs.Common.{◌≡◌, ℕ, ◌+◌, ◌<◌, ◌≤◌, Bool, List, ◌∷◌, ◌++◌, Option, Some, None, length, length-append, count_by, cond, refl, sym, ap, subst, ◌∙◌, arith}
 use Rattle.std.specs.Prelude.{◌==◌}
 use Rattle.std.proofs.lemmas.List.Sums.{sum_by-cons, sum_by-append}
 use Rattle.link_arena.specs.declared.arena.Links.{Links}
@@ -7,7 +7,7 @@ use Rattle.link_arena.specs.Arena.{Arena, value_at, links_at}
 use Rattle.pairing_heap.specs.Tree.{Tree, leaf, node, pairs, tally, slot_count, Joined, Ordered, IsHeap}
 use Rattle.pairing_heap.specs.Heap.{key_of_value, keys_at, tree_at, pairs_at, Stands, LinksOnly, OthersStay, SameSlots}
 use Rattle.pairing_heap.specs.Chain.{solo, IsRoot}
-use Rattle.pairing_heap.proofs.Size.{size-most, tree_from-joined, keyed-joined}
+use Rattle.pairing_heap.proofs.Size.{size, size-most, tree_from-joined, keyed-joined}
 use Rattle.pairing_heap.proofs.Frame.{Kept, Joined-kept}
 use Rattle.pairing_heap.proofs.Melding.{live_from_key}
 use Rattle.pairing_heap.proofs.Passes.{within_from_live}
@@ -24,6 +24,12 @@ module _ {X : Type 0} where
         count_by-pairs test children,
         count_by-pairs test rest,
       )
+
+  -- there are as many pairs as nodes
+  pub length-pairs : (tree : Tree X) → length (pairs tree) ≡ size tree
+  length-pairs leaf = refl
+  length-pairs (node key slot children rest) =
+      omega (arith, length-append (pairs children) (pairs rest), length-pairs children, length-pairs rest)
 
   pub count_by-more : (test : X × ℕ → Bool) (pair : X × ℕ) (xs : List (X × ℕ)) → count_by test (pair ∷ xs) ≡ cond (test pair) 1 0 + count_by test xs
   count_by-more test pair xs = sum_by-cons (λ p. cond (test p) 1 0) pair xs

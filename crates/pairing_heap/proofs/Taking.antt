@@ -1,16 +1,17 @@
 -- What taking a slot out makes of a heap.
-use Rattle.std.proofs.Common.{◌≡◌, ℕ, ◌+◌, ◌<◌, ◌≤◌, Bool, Option, Some, count_by, cond, sym, ap, ◌∙◌, arith}
+use Rattle.std.proofs.Common.{◌≡◌, ℕ, ◌+◌, ◌<◌, ◌≤◌, Bool, true, Option, Some, length, count_by, cond, sym, ap, ◌∙◌, arith}
 use Rattle.std.specs.Prelude.{◌==◌}
 use Rattle.link_arena.specs.Arena.{Arena, value_at, links_at, IsLive, unlinked, Relinks}
 use Rattle.pairing_heap.specs.Tree.{Tree, tally, slot_count, IsHeap}
 use Rattle.pairing_heap.specs.Heap.{times_of, keys_at, tree_at, pairs_at, Stands, LinksOnly, TakesPair}
-use Rattle.pairing_heap.specs.Chain.{solo, Chained, Merges}
+use Rattle.pairing_heap.specs.Chain.{solo, siblings, Chained, Merges}
 use Rattle.pairing_heap.proofs.Counts.{one, one_same}
 use Rattle.pairing_heap.proofs.Frame.{IsChain-kept, IsChain-joined}
 use Rattle.pairing_heap.proofs.Melding.{live_from_key}
 use Rattle.pairing_heap.proofs.Passes.{Kept-apart}
 use Rattle.pairing_heap.proofs.Pairing.{LinksOnly-relinks, LinksOnly-then}
-use Rattle.pairing_heap.proofs.Standing.{HasRoot, has_root, Stands-heap, count_by-heap, count_by-stands, count_by-more, OthersStay-links}
+use Rattle.pairing_heap.proofs.Standing.{HasRoot, has_root, Stands-heap, count_by-heap, count_by-stands, count_by-more, length-pairs, OthersStay-links}
+use Rattle.pairing_heap.proofs.Size.{siblings-most}
 
 module _ {V X : Type 0} (k : ℕ) (key_of : V → X) (precedes : X → X → Bool) where
   pub Takes-links : (old new : Arena V) (heap later : Option ℕ) (slot : ℕ) (key : X) (tree : Tree X) → k < 2 → keys_at key_of old slot ≡ Some key → IsHeap precedes (keys_at key_of new) (links_at new k) later tree → ((test : X × ℕ → Bool) → count_by test (pairs_at k key_of old heap) ≡ cond (test (key, slot)) 1 0 + tally test tree) → links_at new k slot ≡ unlinked → LinksOnly k old new (times_of (pairs_at k key_of old heap)) → TakesPair k key_of precedes old new heap later slot
@@ -52,6 +53,12 @@ module _ {V X : Type 0} (k : ℕ) (key_of : V → X) (precedes : X → X → Boo
         },
         λ test. omega (arith, count_by-stands k key_of precedes old (Some root) test, ap (tally test) before.is),
       )
+
+  -- the root has fewer children than the heap has pairs
+  pub children-most : (old mid : Arena V) (root : ℕ) (stands : Stands k key_of precedes old (Some root)) (relinks : Relinks old mid k root unlinked) (spare : mid.spare ≡ old.spare) → siblings (Chained-children old mid root stands relinks spare).0.tree < length (pairs_at k key_of old (Some root))
+  children-most old mid root stands relinks spare =
+      let children = Chained-children old mid root stands relinks spare in
+      omega (arith, children.1 (λ _. true), siblings-most children.0.tree, length-pairs (tree_at k key_of old (Some root)), count_by-stands k key_of precedes old (Some root) (λ _. true))
 
   -- the root goes, and its children become the heap
   pub Takes-root : (old mid new : Arena V) (root : ℕ) (later : Option ℕ) (stands : Stands k key_of precedes old (Some root)) (relinks : Relinks old mid k root unlinked) (spare : mid.spare ≡ old.spare) → Merges k key_of precedes mid new (links_at old k root).child later (Chained-children old mid root stands relinks spare).0 → TakesPair k key_of precedes old new (Some root) later root

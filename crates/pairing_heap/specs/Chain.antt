@@ -1,5 +1,5 @@
 -- How the work on a heap is said: roots, and chains of them. No public clause cites this module.
-use Rattle.std.specs.Prelude.{◌≡◌, ◌≢◌, ◌⊎◌, ℕ, ◌+◌, ◌<◌, ◌≤◌, Bool, true, Option, Some, None, ◌==◌}
+use Rattle.std.specs.Prelude.{◌≡◌, ◌≢◌, ◌⊎◌, ℕ, ◌+◌, ◌-◌, ◌/◌, ◌<◌, ◌≤◌, Bool, true, Option, Some, None, ◌==◌}
 use Rattle.link_arena.specs.declared.arena.Links.{Links}
 use Rattle.link_arena.specs.Arena.{Arena, value_at, links_at, IsLive}
 use Rattle.pairing_heap.specs.Tree.{Tree, leaf, node, tally, slot_count, Joined, Ordered, IsHeap}
@@ -44,6 +44,11 @@ pub record KeepsRest {V : Type 0} (k : ℕ) (old new : Arena V) : Type 0 where
   pub spare : new.spare ≡ old.spare
 
 module _ {X : Type 0} where
+  -- how many roots a chain has
+  abbrev pub siblings : Tree X → ℕ
+  siblings leaf = 0
+  siblings (node key slot children rest) = 1 + siblings rest
+
   -- the tree of one root
   abbrev pub solo : X → ℕ → Tree X → Tree X
   solo key slot children = node key slot children leaf
@@ -110,6 +115,7 @@ module _ {V X : Type 0} (k : ℕ) (key_of : V → X) (precedes : X → X → Boo
     pub now : Split new later rest
     pub nodes : (test : X × ℕ → Bool) → split_tally new later rest now test ≡ split_tally old top (Some other) was test
     pub less : tally (λ _. true) now.left < tally (λ _. true) was.left
+    pub fewer : 1 + siblings now.left ≡ siblings was.left
     pub kept : LinksOnly k old new (λ slot. split_tally old top (Some other) was (λ pair. pair.1 == slot))
 
   -- the first one or two of the chain became one root
@@ -117,27 +123,33 @@ module _ {V X : Type 0} (k : ℕ) (key_of : V → X) (precedes : X → X → Boo
     pub now : Split new later rest
     pub nodes : (test : X × ℕ → Bool) → split_tally new later rest now test ≡ tally test was.tree
     pub less : tally (λ _. true) now.left < tally (λ _. true) was.tree
+    pub fewer : siblings now.left ≡ siblings was.tree - 2
     pub kept : LinksOnly k old new (λ slot. slot_count slot was.tree)
 
-  -- the chain became a root and a chain of the same nodes
-  pub record Folds (old new : Arena V) (first : Option ℕ) (top : ℕ) (rest : Option ℕ) (was : Chained old first) : Type 0 where
+  -- the chain became a root and a chain of the same nodes, with one root less for each comparison
+  pub record Folds (old new : Arena V) (first : Option ℕ) (top : ℕ) (rest : Option ℕ) (was : Chained old first) (start steps : ℕ) : Type 0 where
     pub now : Split new top rest
+    pub some : 1 ≤ siblings was.tree
+    pub spent : steps + (1 + siblings now.left) ≡ start + siblings was.tree
     pub nodes : (test : X × ℕ → Bool) → split_tally new top rest now test ≡ tally test was.tree
     pub kept : LinksOnly k old new (λ slot. slot_count slot was.tree)
 
-  -- the chain became two of the same nodes: what is left, and what is done
-  pub record Halves (old new : Arena V) (first rest done : Option ℕ) (was : Chained old first) : Type 0 where
+  -- the chain became two of the same nodes, what is left and what is done, with one root less for each comparison
+  pub record Halves (old new : Arena V) (first rest done : Option ℕ) (was : Chained old first) (start steps : ℕ) : Type 0 where
     pub left : Tree X
     pub ready : Tree X
     pub left_chain : IsChain precedes (keys_at key_of new) (links_at new k) rest left
     pub ready_chain : IsChain precedes (keys_at key_of new) (links_at new k) done ready
+    pub half : siblings ready + (siblings left + 1) / 2 ≡ (siblings was.tree + 1) / 2
+    pub spent : steps + (siblings left + siblings ready) ≡ start + siblings was.tree
     pub nodes : (test : X × ℕ → Bool) → tally test left + tally test ready ≡ tally test was.tree
     pub kept : LinksOnly k old new (λ slot. slot_count slot was.tree)
 
-  -- the chain became another of the same nodes
+  -- the chain became another of the same nodes, with half as many roots
   pub record Rechains (old new : Arena V) (first later : Option ℕ) (was : Chained old first) : Type 0 where
     pub tree : Tree X
     pub chain : IsChain precedes (keys_at key_of new) (links_at new k) later tree
+    pub half : siblings tree ≡ (siblings was.tree + 1) / 2
     pub nodes : (test : X × ℕ → Bool) → tally test tree ≡ tally test was.tree
     pub kept : LinksOnly k old new (λ slot. slot_count slot was.tree)
 
@@ -147,6 +159,15 @@ module _ {V X : Type 0} (k : ℕ) (key_of : V → X) (precedes : X → X → Boo
     pub heap : IsHeap precedes (keys_at key_of new) (links_at new k) root tree
     pub nodes : (test : X × ℕ → Bool) → tally test tree ≡ tally test was.tree
     pub kept : LinksOnly k old new (λ slot. slot_count slot was.tree)
+
+  -- the chain became one of half as many roots first, and that became one heap
+  pub record MergesInPairs (old new : Arena V) (first root : Option ℕ) (was : Chained old first) : Type 0 where
+    pub middle : Arena V
+    pub paired : Option ℕ
+    pub chained : Chained middle paired
+    pub half : siblings chained.tree ≡ (siblings was.tree + 1) / 2
+    pub nodes : (test : X × ℕ → Bool) → tally test chained.tree ≡ tally test was.tree
+    pub merges : Merges middle new paired root chained
 
   -- the chain went into the root's heap
   pub record Joins (old new : Arena V) (root : ℕ) (children : Option ℕ) (result : ℕ) (was : Split old root children) : Type 0 where

@@ -23,6 +23,12 @@ pub record LinksOnly {V : Type 0} (k : ℕ) (old new : Arena V) (times : ℕ →
   pub elsewhere : (slot : ℕ) → times slot ≡ 0 → links_at new k slot ≡ links_at old k slot
   pub spare : new.spare ≡ old.spare
 
+-- the slot has this value; other values, and links of other sets than k, stay
+pub record RevaluesOnly {V : Type 0} (k : ℕ) (old new : Arena V) (slot : ℕ) (value : V) : Type 0 where
+  pub stored : value_at new slot ≡ Some value
+  pub values : (other : ℕ) → other ≢ slot → value_at new other ≡ value_at old other
+  pub other_set : (set other : ℕ) → set ≢ k → links_at new set other ≡ links_at old set other
+
 module _ {V X : Type 0} where
   -- the key at each slot of the arena
   abbrev pub keys_at : (V → X) → Arena V → ℕ → Option X
@@ -96,4 +102,10 @@ module _ {V X : Type 0} where
     pub other_set : (set other : ℕ) → set ≢ k → links_at new set other ≡ links_at old set other
     pub elsewhere : (other : ℕ) → times_of (pairs_at k key_of old heap) other ≡ 0 → links_at new k other ≡ links_at old k other
     pub spare : new.spare ≡ old.spare
+    pub others : OthersStay k key_of precedes old new (times_of (pairs_at k key_of old heap))
+
+  -- the links of each of the heap's slots lead nowhere; the rest stays
+  pub record ClearsSlots (k : ℕ) (key_of : V → X) (precedes : X → X → Bool) (old new : Arena V) (heap : Option ℕ) : Type 0 where
+    pub free : (slot : ℕ) → Holds k key_of old heap slot → links_at new k slot ≡ unlinked
+    pub kept : LinksOnly k old new (times_of (pairs_at k key_of old heap))
     pub others : OthersStay k key_of precedes old new (times_of (pairs_at k key_of old heap))

@@ -1,7 +1,8 @@
-ghost use Rattle.std.specs.Prelude.{◌≡◌, ℕ, ◌+◌, ◌<◌, ◌≤◌, Some, None, IsTrue, ◌↔◌, IsSome, IsNone, IfSome, IfNone, []};
+ghost use Rattle.std.specs.Prelude.{◌≡◌, ℕ, ◌+◌, ◌<◌, ◌≤◌, Some, None, IsTrue, ◌↔◌, IsSome, IsNone, IfSome, IfNone, [], length};
 
+use crate::clear::clear_from;
 use crate::meld::{add_root, take_root, take_slot};
-use crate::{Keyed, Steps};
+use crate::{Counted, Keyed, Steps};
 use link_arena::Arena;
 use std::marker::Model;
 use std::sync::ledger::Ledger;
@@ -22,7 +23,7 @@ impl<const K: usize> Model for Heap<K> {
 
 impl<const K: usize> Heap<K> {
     ghost use Rattle.link_arena.specs.Arena.{IsLive, value_at};
-    ghost use Rattle.pairing_heap.specs.Heap.{Stands, Lacks, Holds, AddsPair, TakesPair, RekeysPair, pairs_at, IsLeast, SameSlots};
+    ghost use Rattle.pairing_heap.specs.Heap.{Stands, Lacks, Holds, AddsPair, TakesPair, RekeysPair, pairs_at, IsLeast, SameSlots, ClearsSlots};
 
     /// A heap with no entry.
     pub fn new() -> Heap<K>
@@ -78,6 +79,8 @@ impl<const K: usize> Heap<K> {
         slot: u32,
         steps: &mut Steps<L>,
     )
+    where
+        V::Key: Counted<L>,
         requires stands { Stands K V.key_of V.Key.precedes arena.old self.old }
         requires live { IsLive arena.old slot }
         requires lacks { Lacks K V.key_of arena.old self.old slot }
@@ -96,12 +99,15 @@ impl<const K: usize> Heap<K> {
         arena: &mut Arena<V>,
         steps: &mut Steps<L>,
     ) -> Option<u32>
+    where
+        V::Key: Counted<L>,
         requires { Stands K V.key_of V.Key.precedes arena.old self.old }
         ensures first { result ≡ self.old }
         ensures takes { IfSome result (λ slot. TakesPair K V.key_of V.Key.precedes arena.old arena.new self.old self.new slot) }
         ensures heap { IfNone result (self.new ≡ self.old) }
         ensures arena { IfNone result (arena.new ≡ arena.old) }
         ensures ticks { steps.old ≤ steps.new }
+        ensures most { steps.new ≤ steps.old + length (pairs_at K V.key_of arena.old self.old) }
     {
         let Some(root) = self.root else {
             return None;
@@ -117,12 +123,25 @@ impl<const K: usize> Heap<K> {
         slot: u32,
         steps: &mut Steps<L>,
     )
+    where
+        V::Key: Counted<L>,
         requires stands { Stands K V.key_of V.Key.precedes arena.old self.old }
         requires held { Holds K V.key_of arena.old self.old slot }
         ensures takes { TakesPair K V.key_of V.Key.precedes arena.old arena.new self.old self.new slot }
         ensures ticks { steps.old ≤ steps.new }
+        ensures most { steps.new ≤ steps.old + length (pairs_at K V.key_of arena.old self.old) }
     {
         self.root = take_slot::<V, K, L>(arena, self.root, slot, steps);
+    }
+
+    /// Takes all slots out, whose links lead nowhere then. Nothing is compared, and each slot is looked at twice at most.
+    pub fn clear<V: Keyed<K>>(&mut self, arena: &mut Arena<V>)
+        requires { Stands K V.key_of V.Key.precedes arena.old self.old }
+        ensures empty { self.new ≡ None }
+        ensures clears { ClearsSlots K V.key_of V.Key.precedes arena.old arena.new self.old }
+    {
+        clear_from::<V, K>(arena, self.root);
+        self.root = None;
     }
 
     /// Gives a slot of the heap the value `v`, and the place in the heap that goes with its key, and hands back the old
@@ -134,11 +153,14 @@ impl<const K: usize> Heap<K> {
         v: V,
         steps: &mut Steps<L>,
     ) -> V
+    where
+        V::Key: Counted<L>,
         requires stands { Stands K V.key_of V.Key.precedes arena.old self.old }
         requires held { Holds K V.key_of arena.old self.old slot }
         ensures value { value_at arena.old slot ≡ Some result }
         ensures rekeys { RekeysPair K V.key_of V.Key.precedes arena.old arena.new self.old self.new slot v }
         ensures ticks { steps.old ≤ steps.new }
+        ensures most { steps.new ≤ steps.old + length (pairs_at K V.key_of arena.old self.old) + 1 }
     {
         self.remove(arena, slot, steps);
         let old = arena.replace(slot, v);

@@ -8,12 +8,16 @@ use std::sync::ledger::Ledger;
 pub trait HeapKey: Drop {
     ghost precedes: { Self → Self → Bool };
 
-    /// Whether `self` precedes `other`. Each call counts one comparison.
-    fn before<L: Ledger>(&self, other: &Self, steps: &mut Steps<L>) -> bool
-        ensures answer { result ≡ precedes self.now other.now }
-        ensures tick { steps.new ≡ steps.old + 1 };
-
     ghost order: { IsStrictOrder precedes };
+}
+
+/// A key whose comparisons are counted by the ledger `L`. Code that is generic in `L` can compare such keys only by the
+/// counter that it is handed.
+pub trait Counted<L: Ledger>: HeapKey {
+    /// Whether `self` precedes `other`. Each call counts one comparison.
+    fn before(&self, other: &Self, steps: &mut Steps<L>) -> bool
+        ensures answer { result ≡ Self.precedes self.now other.now }
+        ensures tick { steps.new ≡ steps.old + 1 };
 }
 
 /// A value that has a key for the link set `K`.

@@ -1,6 +1,6 @@
 //! Laws of heaps, for whatever holds an arena. Each is the contract of a function that does nothing.
 
-ghost use Rattle.pairing_heap.specs.Laws.{HeldAreLive, SlotsStandOnce, StaysWhereSlotsStay, StaysWhereReserved, StaysWhereInserted, StaysWhereRemoved, StaysWhereRevalued, StaysWhereOtherSetChanges, AddsOneSlot, TakesOneSlot, AddedIsHeld, TakenIsLacked, RekeysNoSlot};
+ghost use Rattle.pairing_heap.specs.Laws.{HeldAreLive, SlotsStandOnce, StaysWhereSlotsStay, StaysWhereReserved, StaysWhereInserted, StaysWhereRemoved, StaysWhereRevalued, StaysWhereOtherSetChanges, AddsOneSlot, TakesOneSlot, AddedIsHeld, TakenIsLacked, RekeysNoSlot, StaysWhereKeyStays, AddsOnePair, TakesOnePair, RekeysNoPair, RekeysWherePushedAgain, RekeysWhereKeyStays, FirstIsLeast, AddedStaysApart, TakenStaysApart, RekeyedStaysApart, StaysWhereOtherSetRekeys, StaysWhereCleared};
 
 use crate::{HeapKey, Keyed};
 
@@ -67,4 +67,64 @@ pub fn taken_is_lacked<V: Keyed<K>, const K: usize>()
 /// Where a slot gets another value, each slot stands in the heap as often.
 pub fn rekeys_no_slot<V: Keyed<K>, const K: usize>()
     ensures { RekeysNoSlot K V.key_of V.Key.precedes }
+{}
+
+/// A heap stays where a slot gets another value with the same key.
+pub fn stays_where_key_stays<V: Keyed<K>, const K: usize>()
+    ensures { StaysWhereKeyStays K V.key_of V.Key.precedes }
+{}
+
+/// Where a pair comes in, the heap has one pair more.
+pub fn adds_one_pair<V: Keyed<K>, const K: usize>()
+    ensures { AddsOnePair K V.key_of V.Key.precedes }
+{}
+
+/// Where a pair goes out, the heap has one pair less.
+pub fn takes_one_pair<V: Keyed<K>, const K: usize>()
+    ensures { TakesOnePair K V.key_of V.Key.precedes }
+{}
+
+/// Where a slot gets another value, the heap has as many pairs.
+pub fn rekeys_no_pair<V: Keyed<K>, const K: usize>()
+    ensures { RekeysNoPair K V.key_of V.Key.precedes }
+{}
+
+/// A slot that is taken out, is written in place, and is pushed again is rekeyed.
+pub fn rekeys_where_pushed_again<V: Keyed<K>, const K: usize>()
+    ensures { RekeysWherePushedAgain K V.key_of V.Key.precedes }
+{}
+
+/// A slot that is written in place, and keeps its key, is rekeyed where it stands.
+pub fn rekeys_where_key_stays<V: Keyed<K>, const K: usize>()
+    ensures { RekeysWhereKeyStays K V.key_of V.Key.precedes }
+{}
+
+/// The first slot of a heap is one whose key no other precedes, and there is none exactly where the heap is empty.
+pub fn first_is_least<V: Keyed<K>, const K: usize>()
+    ensures { FirstIsLeast K V.key_of V.Key.precedes }
+{}
+
+/// Two heaps share no slot still where a slot that the other lacks comes into the one.
+pub fn added_stays_apart<V: Keyed<K>, const K: usize>()
+    ensures { AddedStaysApart K V.key_of V.Key.precedes }
+{}
+
+/// Two heaps share no slot still where a slot goes out of the one.
+pub fn taken_stays_apart<V: Keyed<K>, const K: usize>()
+    ensures { TakenStaysApart K V.key_of V.Key.precedes }
+{}
+
+/// Two heaps share no slot still where a slot of the one gets another value.
+pub fn rekeyed_stays_apart<V: Keyed<K>, const K: usize>()
+    ensures { RekeyedStaysApart K V.key_of V.Key.precedes }
+{}
+
+/// A heap stays where a heap of the other set is rekeyed, unless the slot is in it and gets another key for it.
+pub fn stays_where_other_set_rekeys<V: Keyed<K>, const K: usize>()
+    ensures { StaysWhereOtherSetRekeys K V.key_of V.Key.precedes }
+{}
+
+/// A heap that shares no slot with another stays where that is cleared.
+pub fn stays_where_cleared<V: Keyed<K>, const K: usize>()
+    ensures { StaysWhereCleared K V.key_of V.Key.precedes }
 {}

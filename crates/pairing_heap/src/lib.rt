@@ -1,6 +1,7 @@
 //! Pairing heaps, after Fredman, Sedgewick, Sleator and Tarjan, whose nodes are slots of an arena.
 #![tactic(auto)]
 
+mod clear;
 mod heap;
 mod key;
 pub mod laws;
@@ -10,5 +11,5 @@ mod steps;
 mod tests;
 
 pub use heap::Heap;
-pub use key::{HeapKey, Keyed};
+pub use key::{Counted, HeapKey, Keyed};
 pub use steps::Steps;

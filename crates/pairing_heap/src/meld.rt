@@ -1,9 +1,9 @@
-ghost use Rattle.std.specs.Prelude.{◌≡◌, ◌≢◌, ℕ, ◌+◌, ◌<◌, ◌≤◌, Some, None};
+ghost use Rattle.std.specs.Prelude.{◌≡◌, ◌≢◌, ℕ, ◌+◌, ◌-◌, ◌/◌, ◌<◌, ◌≤◌, min, length, Some, None};
 ghost use Rattle.link_arena.specs.Arena.{IsLive, links_at, value_at, Relinks};
-ghost use Rattle.pairing_heap.specs.Chain.{Adopts, CanAdopt, CanUnhook, Unhooks, KeepsRest, CanMeld, Melds, Chained, Split, Resplits, Pairs, Rechains, Merges, Joins};
-ghost use Rattle.pairing_heap.specs.Heap.{keys_at, Stands, Holds, Lacks, AddsPair, TakesPair};
+ghost use Rattle.pairing_heap.specs.Chain.{Adopts, CanAdopt, CanUnhook, Unhooks, KeepsRest, CanMeld, Melds, Chained, Split, Resplits, Pairs, Rechains, Merges, MergesInPairs, Joins, siblings};
+ghost use Rattle.pairing_heap.specs.Heap.{keys_at, pairs_at, Stands, Holds, Lacks, AddsPair, TakesPair};
 
-use crate::{HeapKey, Keyed, Steps};
+use crate::{Counted, HeapKey, Keyed, Steps};
 use link_arena::{Arena, Links};
 use std::sync::ledger::Ledger;
 
@@ -14,6 +14,8 @@ pub(crate) fn meld<V: Keyed<K>, const K: usize, L: Ledger>(
     b: u32,
     steps: &mut Steps<L>,
 ) -> u32
+where
+    V::Key: Counted<L>,
     requires { CanMeld K V.key_of V.Key.precedes arena.old a b }
     ensures melds { (both : CanMeld K V.key_of V.Key.precedes arena.old a b) → Melds K V.key_of V.Key.precedes arena.old arena.new a b result both }
     ensures ticks { steps.new ≡ steps.old + 1 }
@@ -34,6 +36,8 @@ pub(crate) fn add_root<V: Keyed<K>, const K: usize, L: Ledger>(
     slot: u32,
     steps: &mut Steps<L>,
 ) -> u32
+where
+    V::Key: Counted<L>,
     requires stands { Stands K V.key_of V.Key.precedes arena.old heap }
     requires live { IsLive arena.old slot }
     requires lacks { Lacks K V.key_of arena.old heap slot }
@@ -55,9 +59,12 @@ pub(crate) fn take_root<V: Keyed<K>, const K: usize, L: Ledger>(
     root: u32,
     steps: &mut Steps<L>,
 ) -> Option<u32>
+where
+    V::Key: Counted<L>,
     requires { Stands K V.key_of V.Key.precedes arena.old (Some root) }
     ensures takes { TakesPair K V.key_of V.Key.precedes arena.old arena.new (Some root) result root }
     ensures ticks { steps.old ≤ steps.new }
+    ensures most { steps.new ≤ steps.old + length (pairs_at K V.key_of arena.old (Some root)) }
 {
     let children = arena.links(K, root).child;
     arena.set_links(K, root, Links::NONE);
@@ -71,10 +78,13 @@ pub(crate) fn take_slot<V: Keyed<K>, const K: usize, L: Ledger>(
     slot: u32,
     steps: &mut Steps<L>,
 ) -> Option<u32>
+where
+    V::Key: Counted<L>,
     requires stands { Stands K V.key_of V.Key.precedes arena.old heap }
     requires held { Holds K V.key_of arena.old heap slot }
     ensures takes { TakesPair K V.key_of V.Key.precedes arena.old arena.new heap result slot }
     ensures ticks { steps.old ≤ steps.new }
+    ensures most { steps.new ≤ steps.old + length (pairs_at K V.key_of arena.old heap) }
 {
     let root = heap.unwrap();
     if root == slot {
@@ -91,11 +101,14 @@ fn take_inner<V: Keyed<K>, const K: usize, L: Ledger>(
     slot: u32,
     steps: &mut Steps<L>,
 ) -> u32
+where
+    V::Key: Counted<L>,
     requires stands { Stands K V.key_of V.Key.precedes arena.old (Some root) }
     requires held { Holds K V.key_of arena.old (Some root) slot }
     requires below { root ≢ slot }
     ensures takes { TakesPair K V.key_of V.Key.precedes arena.old arena.new (Some root) (Some result) slot }
     ensures ticks { steps.old ≤ steps.new }
+    ensures most { steps.new ≤ steps.old + length (pairs_at K V.key_of arena.old (Some root)) }
 {
     let links = arena.links(K, slot);
     let pred = links.prev.unwrap();
@@ -111,6 +124,8 @@ fn is_before<V: Keyed<K>, const K: usize, L: Ledger>(
     b: u32,
     steps: &mut Steps<L>,
 ) -> bool
+where
+    V::Key: Counted<L>,
     requires a_live { IsLive arena.now a }
     requires b_live { IsLive arena.now b }
     ensures answer { (x y : V.Key) → keys_at V.key_of arena.now a ≡ Some x → keys_at V.key_of arena.now b ≡ Some y → result ≡ V.Key.precedes x y }
@@ -163,9 +178,12 @@ pub(crate) fn merge_children<V: Keyed<K>, const K: usize, L: Ledger>(
     first: Option<u32>,
     steps: &mut Steps<L>,
 ) -> Option<u32>
+where
+    V::Key: Counted<L>,
     requires { Chained K V.key_of V.Key.precedes arena.old first }
     ensures merges { (was : Chained K V.key_of V.Key.precedes arena.old first) → Merges K V.key_of V.Key.precedes arena.old arena.new first result was }
-    ensures ticks { steps.old ≤ steps.new }
+    ensures pairs { (was : Chained K V.key_of V.Key.precedes arena.old first) → MergesInPairs K V.key_of V.Key.precedes arena.old arena.new first result was }
+    ensures ticks { (was : Chained K V.key_of V.Key.precedes arena.old first) → steps.new ≡ steps.old + (siblings was.tree - 1) }
 {
     let paired = pair_up::<V, K, L>(arena, first, steps);
     fold_up::<V, K, L>(arena, paired, steps)
@@ -178,9 +196,12 @@ fn join_children<V: Keyed<K>, const K: usize, L: Ledger>(
     children: Option<u32>,
     steps: &mut Steps<L>,
 ) -> u32
+where
+    V::Key: Counted<L>,
     requires { Split K V.key_of V.Key.precedes arena.old root children }
     ensures joins { (was : Split K V.key_of V.Key.precedes arena.old root children) → (links_at arena.old K root).next ≡ None → (links_at arena.old K root).prev ≡ None → Joins K V.key_of V.Key.precedes arena.old arena.new root children result was }
     ensures ticks { steps.old ≤ steps.new }
+    ensures most { (was : Split K V.key_of V.Key.precedes arena.old root children) → steps.new ≤ steps.old + (siblings was.left + 1) }
 {
     match merge_children::<V, K, L>(arena, children, steps) {
         None => root,
@@ -194,9 +215,11 @@ fn pair_up<V: Keyed<K>, const K: usize, L: Ledger>(
     first: Option<u32>,
     steps: &mut Steps<L>,
 ) -> Option<u32>
+where
+    V::Key: Counted<L>,
     requires { Chained K V.key_of V.Key.precedes arena.old first }
     ensures rechains { (was : Chained K V.key_of V.Key.precedes arena.old first) → Rechains K V.key_of V.Key.precedes arena.old arena.new first result was }
-    ensures ticks { steps.old ≤ steps.new }
+    ensures ticks { (was : Chained K V.key_of V.Key.precedes arena.old first) → steps.new ≡ steps.old + siblings was.tree / 2 }
 {
     let mut rest = first;
     let mut paired = None;
@@ -215,9 +238,11 @@ fn fold_up<V: Keyed<K>, const K: usize, L: Ledger>(
     first: Option<u32>,
     steps: &mut Steps<L>,
 ) -> Option<u32>
+where
+    V::Key: Counted<L>,
     requires { Chained K V.key_of V.Key.precedes arena.old first }
     ensures merges { (was : Chained K V.key_of V.Key.precedes arena.old first) → Merges K V.key_of V.Key.precedes arena.old arena.new first result was }
-    ensures ticks { steps.old ≤ steps.new }
+    ensures ticks { (was : Chained K V.key_of V.Key.precedes arena.old first) → steps.new ≡ steps.old + (siblings was.tree - 1) }
 {
     let mut top = first?;
     let mut rest = arena.links(K, top).next;
@@ -234,9 +259,11 @@ fn first_pair<V: Keyed<K>, const K: usize, L: Ledger>(
     first: u32,
     steps: &mut Steps<L>,
 ) -> (u32, Option<u32>)
+where
+    V::Key: Counted<L>,
     requires { Chained K V.key_of V.Key.precedes arena.old (Some first) }
     ensures pairs { (was : Chained K V.key_of V.Key.precedes arena.old (Some first)) → Pairs K V.key_of V.Key.precedes arena.old arena.new first result.0 result.1 was }
-    ensures ticks { steps.old ≤ steps.new }
+    ensures ticks { (was : Chained K V.key_of V.Key.precedes arena.old (Some first)) → steps.new ≡ steps.old + min 1 (siblings was.tree - 1) }
 {
     match arena.links(K, first).next {
         None => (first, None),
@@ -251,6 +278,8 @@ fn meld_next<V: Keyed<K>, const K: usize, L: Ledger>(
     other: u32,
     steps: &mut Steps<L>,
 ) -> (u32, Option<u32>)
+where
+    V::Key: Counted<L>,
     requires { Split K V.key_of V.Key.precedes arena.old top (Some other) }
     ensures splits { (was : Split K V.key_of V.Key.precedes arena.old top (Some other)) → Resplits K V.key_of V.Key.precedes arena.old arena.new top other result.0 result.1 was }
     ensures ticks { steps.new ≡ steps.old + 1 }

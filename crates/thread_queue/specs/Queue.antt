@@ -1,8 +1,8 @@
 -- What contracts say of a queue: with its arena, it is a heap of keys and slots, and how many they are.
 use Rattle.std.specs.Prelude.{List, Option, false, if◌then◌else◌, length, Some, ℕ, ◌+◌, ◌==◌, ◌≡◌}
 use Rattle.flat_policy.specs.Policy.Precedence.{precedes}
-use Rattle.link_arena.specs.Arena.{Arena, value_at}
-use Rattle.pairing_heap.specs.Heap.{AddsPair, Holds, IsApart, Lacks, RekeysPair, Stands, TakesPair, pairs_at, times_of}
+use Rattle.link_arena.specs.Arena.{Arena, links_at, value_at}
+use Rattle.pairing_heap.specs.Heap.{AddsPair, ClearsSlots, Holds, IsApart, Lacks, RekeysPair, Stands, TakesPair, pairs_at, times_of}
 use Rattle.thread_queue.specs.Item.{entry_of, key_of_item, key_precedes, settled_item}
 use Rattle.thread_queue.specs.declared.item.Item.{Item}
 use Rattle.thread_queue.specs.declared.item.ItemKey.{ItemKey}
@@ -61,6 +61,16 @@ pub record Removes (old new : Arena Item) (queue later : Queue) (slot : ℕ) : T
   pub slots : (other : ℕ) → times_in old queue other ≡ (if slot == other then 1 else 0) + times_in new later other
   pub count : later.count + 1 ≡ queue.count
   pub queues : OtherQueuesStay old new (times_in old queue)
+
+-- the links of set 0 of each of the queue's slots lead nowhere; the rest stays
+pub record Clears (old new : Arena Item) (queue : Queue) : Type 0 where
+  pub clears : ClearsSlots 0 key_of_item key_precedes old new queue.root
+  pub queues : OtherQueuesStay old new (times_in old queue)
+
+-- the queue and every link stay
+pub record StaysInPlace (old new : Arena Item) (queue later : Queue) : Type 0 where
+  pub same : later ≡ queue
+  pub links : (set slot : ℕ) → links_at new set slot ≡ links_at old set slot
 
 -- the slot's thread is settled and its item has the priority, and it stays in the queue; the rest stays
 pub record Settles (old new : Arena Item) (queue later : Queue) (slot usage seen pri : ℕ) : Type 0 where

@@ -7,5 +7,5 @@ mod queue;
 #[cfg(test)]
 mod tests;
 
-pub use item::{Item, ItemKey};
+pub use item::{ForeignKey, Item, ItemKey};
 pub use queue::ThreadQueue;

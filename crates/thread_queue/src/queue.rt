@@ -1,13 +1,13 @@
 ghost use Rattle.std.specs.Prelude.{◌≡◌, ℕ, ◌+◌, ◌<◌, ◌≤◌, Some, None, ◌↔◌, IsNone, IfSome, []};
 ghost use Rattle.link_arena.specs.Arena.{Arena as Map, IsLive, value_at, Revalues};
-ghost use Rattle.thread_queue.specs.Item.{settled_item};
+ghost use Rattle.pairing_heap.specs.Laws.{HeldAreLive, FirstIsLeast, AddsOneSlot, AddsOnePair, TakesOneSlot, TakesOnePair, TakenIsLacked, StaysWhereRevalued, RekeysNoSlot, RekeysNoPair, RekeysWherePushedAgain, RekeysWhereKeyStays};
+ghost use Rattle.thread_queue.specs.Item.{key_of_item, key_precedes, settled_item};
 ghost use Rattle.thread_queue.specs.declared.item.Item.{Item as Stored};
-ghost use Rattle.thread_queue.specs.Queue.{StandsIn, HasSlot, LacksSlot, IsFirst, Pushes, Removes, Settles, members};
+ghost use Rattle.thread_queue.specs.Queue.{StandsIn, HasSlot, LacksSlot, IsFirst, Pushes, Removes, Settles, StaysInPlace, Clears, members};
 
 use crate::Item;
-use crate::laws::slots_are_live;
 use link_arena::Arena;
-use pairing_heap::{Heap, Steps};
+use pairing_heap::{Heap, Steps, laws as heaps};
 use std::marker::Model;
 use std::sync::ledger::Ledger;
 
@@ -55,6 +55,7 @@ impl ThreadQueue {
         ensures empty { (arena : Map Stored) → StandsIn arena self.now → IsNone result ↔ (self.now.count ≡ 0) }
         ensures first { (arena : Map Stored) → StandsIn arena self.now → IfSome result (λ slot. IsFirst arena self.now slot) }
     {
+        heap_laws();
         self.heap.peek()
     }
 
@@ -70,6 +71,7 @@ impl ThreadQueue {
         ensures most { steps.new ≤ steps.old + 1 }
         ensures first { self.old.root ≡ None → steps.new ≡ steps.old }
     {
+        heap_laws();
         self.heap.push(arena, slot, steps);
         self.count += 1;
     }
@@ -80,17 +82,28 @@ impl ThreadQueue {
         requires held { HasSlot arena.old self.old slot }
         ensures removes { Removes arena.old arena.new self.old self.new slot }
         ensures ticks { steps.old ≤ steps.new }
+        ensures most { steps.new ≤ steps.old + self.old.count }
     {
-        slots_are_live();
+        heap_laws();
         self.heap.remove(arena, slot, steps);
         self.count -= 1;
     }
 
+    /// Takes all slots out, whose links of set 0 lead nowhere then. Nothing is compared.
+    pub fn clear(&mut self, arena: &mut Arena<Item>)
+        requires { StandsIn arena.old self.old }
+        ensures empty { self.new ≡ record { root = None; count = 0 } }
+        ensures clears { Clears arena.old arena.new self.old }
+    {
+        self.heap.clear(arena);
+        self.count = 0;
+    }
+
     /// Settles the thread of a slot of the queue at the moment `seen` (microseconds), with `usage` (microseconds), and
     /// gives its item the priority `pri`. The slot stays in the queue, at the place that goes with the priority, with
-    /// its number and its arrival.
+    /// its number and its arrival. Where the priority stays the same, so do the queue and all links, and nothing is compared.
     ///
-    /// Keys of link set 1 may change with the item, so the slot is to be in no heap of that set.
+    /// With the priority the slot's key for link set 1 changes, so the slot is to be in no heap of that set then.
     pub fn settle<L: Ledger>(
         &mut self,
         arena: &mut Arena<Item>,
@@ -104,12 +117,47 @@ impl ThreadQueue {
         requires held { HasSlot arena.old self.old slot }
         ensures settles { Settles arena.old arena.new self.old self.new slot usage seen pri }
         ensures ticks { steps.old ≤ steps.new }
+        ensures most { steps.new ≤ steps.old + (self.old.count + 1) }
+        ensures steady { (item : Stored) → value_at arena.old slot ≡ Some item → item.pri ≡ pri → StaysInPlace arena.old arena.new self.old self.new × (steps.new ≡ steps.old) }
     {
-        slots_are_live();
+        heap_laws();
+        if arena.get(slot).pri == pri {
+            settle_item(arena, slot, usage, seen, pri);
+            return;
+        }
         self.heap.remove(arena, slot, steps);
         settle_item(arena, slot, usage, seen, pri);
         self.heap.push(arena, slot, steps);
     }
+}
+
+// What heaps of set 0 keep, as the laws of heaps say it.
+fn heap_laws()
+    ensures live { HeldAreLive 0 key_of_item key_precedes }
+    ensures first { FirstIsLeast 0 key_of_item key_precedes }
+    ensures adds_slot { AddsOneSlot 0 key_of_item key_precedes }
+    ensures adds_pair { AddsOnePair 0 key_of_item key_precedes }
+    ensures takes_slot { TakesOneSlot 0 key_of_item key_precedes }
+    ensures takes_pair { TakesOnePair 0 key_of_item key_precedes }
+    ensures lacked { TakenIsLacked 0 key_of_item key_precedes }
+    ensures revalued { StaysWhereRevalued 0 key_of_item key_precedes }
+    ensures rekeys_slot { RekeysNoSlot 0 key_of_item key_precedes }
+    ensures rekeys_pair { RekeysNoPair 0 key_of_item key_precedes }
+    ensures rekeys_again { RekeysWherePushedAgain 0 key_of_item key_precedes }
+    ensures rekeys_there { RekeysWhereKeyStays 0 key_of_item key_precedes }
+{
+    heaps::held_are_live::<Item, 0>();
+    heaps::first_is_least::<Item, 0>();
+    heaps::adds_one_slot::<Item, 0>();
+    heaps::adds_one_pair::<Item, 0>();
+    heaps::takes_one_slot::<Item, 0>();
+    heaps::takes_one_pair::<Item, 0>();
+    heaps::taken_is_lacked::<Item, 0>();
+    heaps::stays_where_revalued::<Item, 0>();
+    heaps::rekeys_no_slot::<Item, 0>();
+    heaps::rekeys_no_pair::<Item, 0>();
+    heaps::rekeys_where_pushed_again::<Item, 0>();
+    heaps::rekeys_where_key_stays::<Item, 0>();
 }
 
 // Settles the thread of a slot's item, and gives the item a priority. Links stay.

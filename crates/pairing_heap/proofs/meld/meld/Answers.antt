@@ -15,7 +15,7 @@ adopt-requires-else-is_before g c =
 
 pub returns-then-is_before-clause-melds : goal.returns-then-is_before-clause-melds
 returns-then-is_before-clause-melds g c both =
-    Melds-second g.row.K g.V.Keyed.key_of g.V.Key.HeapKey.precedes g.met.V.Key.HeapKey.order _ _ _ _ both c.adopt.ensures.links c.adopt.ensures.rest
+    Melds-second g.row.K g.V.Keyed.key_of g.V.Key.HeapKey.precedes g.V.Key.HeapKey.order _ _ _ _ both c.adopt.ensures.links c.adopt.ensures.rest
     (sym (c.is_before.ensures.answer both.b_key both.a_key both.b_root.keyed both.a_root.keyed) ∙ c.if-is_before.true)
 
 pub returns-else-is_before-clause-melds : goal.returns-else-is_before-clause-melds

@@ -1,6 +1,6 @@
 -- The slot is the root, or it stands below the root.
-use Rattle.std.proofs.Common.{sym, subst, ℕ, Option, Some}
-use Rattle.pairing_heap.specs.Heap.{Stands, Holds, TakesPair}
+use Rattle.std.proofs.Common.{sym, ap, subst, arith, length, ℕ, Option, Some}
+use Rattle.pairing_heap.specs.Heap.{Stands, Holds, TakesPair, pairs_at}
 use Rattle.pairing_heap.proofs.Removing.{some_held}
 use Rattle.pairing_heap.proofs.meld.take_slot.Goals as goal
 
@@ -24,3 +24,11 @@ returns-then-root-slot-clause-takes g c =
 pub returns-else-root-slot-clause-takes : goal.returns-else-root-slot-clause-takes
 returns-else-root-slot-clause-takes g c =
     subst (λ (h : Option ℕ). TakesPair g.row.K g.V.Keyed.key_of g.V.Key.HeapKey.precedes c.args.arena.now c.take_inner.new.arena h (Some c.take_inner.result) c.args.slot) (sym c.unwrap-root.ensures) c.take_inner.ensures.takes
+
+pub returns-then-root-slot-clause-most : goal.returns-then-root-slot-clause-most
+returns-then-root-slot-clause-most g c =
+    omega (arith, c.take_root.ensures.most, ap (λ (h : Option ℕ). length (pairs_at g.row.K g.V.Keyed.key_of c.args.arena.now h)) c.unwrap-root.ensures)
+
+pub returns-else-root-slot-clause-most : goal.returns-else-root-slot-clause-most
+returns-else-root-slot-clause-most g c =
+    omega (arith, c.take_inner.ensures.most, ap (λ (h : Option ℕ). length (pairs_at g.row.K g.V.Keyed.key_of c.args.arena.now h)) c.unwrap-root.ensures)

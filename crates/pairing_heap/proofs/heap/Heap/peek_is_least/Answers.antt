@@ -6,5 +6,5 @@ pub returns : goal.returns
 returns g c = record {
   none = empty_first g.row.K g.V.Keyed.key_of g.V.Key.HeapKey.precedes c.args._arena.now c.args.self.now c.requires;
   held = held_first g.row.K g.V.Keyed.key_of g.V.Key.HeapKey.precedes c.args._arena.now c.args.self.now c.requires;
-  least = least_first g.row.K g.V.Keyed.key_of g.V.Key.HeapKey.precedes g.met.V.Key.HeapKey.order c.args._arena.now c.args.self.now c.requires;
+  least = least_first g.row.K g.V.Keyed.key_of g.V.Key.HeapKey.precedes g.V.Key.HeapKey.order c.args._arena.now c.args.self.now c.requires;
 }

@@ -7,4 +7,4 @@ use Rattle.thread_queue.proofs.queue.ThreadQueue.push.Goals as goal
 pub returns-clause-pushes : goal.returns-clause-pushes
 returns-clause-pushes g c =
     let stands = subst (λ (q : Queue). StandsIn c.args.arena.now q) (sym c.self.view_is) c.requires.stands in
-    rw (← c.self.view_is) (pushes c.args.arena.now c.push.new.arena _ _ c.args.slot stands c.requires.live c.push.ensures.adds refl)
+    rw (← c.self.view_is) (pushes c.heap_laws.ensures.adds_slot c.heap_laws.ensures.adds_pair c.args.arena.now c.push.new.arena _ _ c.args.slot stands c.requires.live c.push.ensures.adds refl)

@@ -7,5 +7,4 @@ use Rattle.thread_queue.proofs.queue.ThreadQueue.remove.Goals as goal
 pub returns-clause-removes : goal.returns-clause-removes
 returns-clause-removes g c =
     let stands = subst (λ (q : Queue). StandsIn c.args.arena.now q) (sym c.self.view_is) c.requires.stands in
-    let live = c.slots_are_live.ensures c.args.arena.now c.args.self.now c.requires.stands c.args.slot c.requires.held in
-    rw (← c.self.view_is) (removes c.args.arena.now c.remove.new.arena _ _ c.args.slot stands live c.remove.ensures.takes refl)
+    rw (← c.self.view_is) (removes c.heap_laws.ensures.takes_slot c.heap_laws.ensures.takes_pair c.args.arena.now c.remove.new.arena _ _ c.args.slot stands c.remove.ensures.takes refl)
