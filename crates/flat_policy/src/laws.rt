@@ -13,6 +13,7 @@ ghost use Rattle.flat_policy.specs.Laws.Places.{LiveIsMadeNotEnded, PlaceIsTheOn
 ghost use Rattle.flat_policy.specs.Laws.Refreshing.{RefreshesByBucket};
 ghost use Rattle.flat_policy.specs.Laws.Windows.{SetupsHaveQuanta};
 ghost use Rattle.flat_policy.specs.Laws.Counts.{StepsKeepCounts, RunsKeepCounts, RunsStaySound, RunsStayWithin};
+ghost use Rattle.flat_policy.specs.Policy.Queue.{Queued};
 ghost use Rattle.flat_policy.specs.Laws.Steps.{ExpiresOnce, RefusalsChangeNothing};
 
 /// Windows that expire twice at one moment are as after once.
@@ -29,6 +30,11 @@ pub fn refusals_change_nothing()
 /// where there are members, is the only such one, and is what one pass over the list finds.
 pub fn choice_is_one<T>()
     ensures { ChoiceIsOne T }
+{}
+
+/// The same of entries of a queue.
+pub fn choice_of_entries_is_one()
+    ensures { ChoiceIsOne Queued }
 {}
 
 /// Under a strict order the choice goes by the members alone, and not by where they stand.

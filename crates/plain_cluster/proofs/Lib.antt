@@ -1,0 +1,9 @@
+pub mod Buckets
+pub mod Flags
+pub mod Scanned
+pub mod Slots
+pub mod Counted
+pub mod Leaving
+pub mod Picking
+pub mod Tops
+pub mod Better

@@ -1,0 +1,5 @@
+pub mod Entries
+pub mod RowParts
+pub mod RowsParts
+pub mod Queues
+pub mod Repricing
