@@ -242,3 +242,8 @@ pub expired_queue : (q : Queue) (w : WindowState) (now : ℕ) → IsQueue q.grou
 expired_queue q w now k is =
     let p : WindowState → Type 0 = λ v. IsQueue q.groups (record q { windows = v }) × (flat_of (record q { windows = v }) ≡ expired v.times (flat_of q) now) × (v.times ≡ q.windows.times) in
     subst p (sym is) (queue_with q.groups q (expired_window q.windows.times now) k (expired_names q.windows.times now), refl, refl)
+
+-- so that the chosen lane has one
+pub no_first : ChoiceIsOne Queued → FirstGoesByKeys → (x n : Queue) (now : ℕ) (at : Lane) → IsChosen x n now at → None ≡ unpreceded (precedes_in_lane (flat_of n)) (lane_entries (flat_of n) at) → ⊥
+no_first one keys x n now at c none =
+    false≢true (ap is_some none ∙ first_there one keys x.groups n at c.queue (ap (λ (r : RowList). list_any (in_lane at) (entries_of r.rows)) c.rows ∙ c.filled))

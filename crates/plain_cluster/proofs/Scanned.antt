@@ -1,7 +1,7 @@
 -- Passes over rows, one row after the other.
-use Rattle.std.proofs.Common.{◌≡◌, ℕ, ◌+◌, ◌<◌, max, Bool, true, false, cond, List, [], ◌∷◌, ◌++◌, filter, fold, get_or, length, map, take, sym, ap, ◌∙◌, arith}
+use Rattle.std.proofs.Common.{◌≡◌, ℕ, ◌+◌, ◌<◌, ◌≤◌, max, Bool, true, false, cond, List, [], ◌∷◌, ◌++◌, filter, fold, get_or, length, map, take, sym, ap, ◌∙◌, arith}
 use Rattle.std.proofs.lemmas.Bool.{cond-false, cond-true}
-use Rattle.std.proofs.lemmas.List.{append-nil, length_push, map-append, map_more}
+use Rattle.std.proofs.lemmas.List.{append-nil, length_push, map-append, map_more, take_all}
 use Rattle.std.proofs.lemmas.List.Elements.{filter-append}
 use Rattle.std.proofs.lemmas.List.Sums.{fold-append}
 use Rattle.flat_policy.specs.Policy.Precedence.{greatest_pri}
@@ -59,3 +59,7 @@ greatest_yes p rows i x within is passes =
 pub greatest_no : (p : Queued → Bool) (rows : List Slotted) (i : ℕ) (x : Slotted) → i < length rows → x ≡ get_or rows i x → p x.entry ≡ false
     → greatest_pri (filter p (entries_of (take (i + 1) rows))) ≡ greatest_pri (filter p (entries_of (take i rows)))
 greatest_no p rows i x within is fails = ap greatest_pri (passed_no p rows i x within is fails)
+
+-- all rows
+pub taken_all : (rows : List Slotted) (n : ℕ) → length rows ≤ n → take n rows ≡ rows
+taken_all rows n all = take_all n rows all

@@ -1,6 +1,8 @@
 -- What the rows of a cluster and the numbers of its clutch buckets mean.
-use Rattle.std.specs.Prelude.{Bool, List, None, Option, Some, count_by, if◌then◌else◌, length, map, max, nat_lt, option_map, slice_get, slice_index_or, ℕ, ◌+◌, ◌<◌, ◌==◌, ◌^◌, ◌≤◌}
+use Rattle.std.specs.Prelude.{Bool, List, None, Option, Some, count_by, if◌then◌else◌, length, map, max, nat_le, nat_lt, option_map, slice_get, slice_index_or, ℕ, ◌&&◌, ◌+◌, ◌<◌, ◌==◌, ◌^◌, ◌≤◌}
 use Rattle.sched_base.specs.declared.Bucket.{Bucket}
+use Rattle.sched_base.specs.Bucket.{index}
+use Rattle.flat_policy.specs.Policy.Offer.{is_unbound}
 use Rattle.flat_policy.specs.Policy.Queue.{Clutch, Queued, clutch_place, no_spans}
 use Rattle.flat_policy.specs.Policy.Usage.{Spans, score}
 
@@ -15,6 +17,10 @@ entries_of rows = map (λ (r : Slotted). r.entry) rows
 
 abbrev pub slots_of : List Slotted → List ℕ
 slots_of rows = map (λ (r : Slotted). r.slot) rows
+
+-- whether an entry counts for the load of a bucket: it is unbound, and of that bucket or a higher one
+abbrev pub is_unbound_to : Bucket → Queued → Bool
+is_unbound_to b e = is_unbound e.facts && nat_le (index e.facts.bucket) (index b)
 
 -- the entry at a place, where there is one
 abbrev pub entry_at : List Slotted → Option ℕ → Option Queued

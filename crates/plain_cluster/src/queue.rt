@@ -1,6 +1,6 @@
 //! The queue of a cluster: its rows, the numbers of its clutch buckets, and its windows.
 
-ghost use Rattle.std.specs.Prelude.{◌≡◌, IfOk, []};
+ghost use Rattle.std.specs.Prelude.{◌≡◌, IfOk, [], length};
 ghost use Rattle.flat_policy.specs.Policy.Queue.{empty_flat};
 ghost use Rattle.plain_cluster.specs.Queues.{FlagsFollow, flat_of};
 
@@ -48,5 +48,21 @@ impl Queue {
             next_arrival: 0,
             on: true,
         })
+    }
+
+    /// Ends a queue in which nothing is queued.
+    pub fn end(self)
+        requires { length self.rows.rows ≡ 0 }
+    {
+        let Queue {
+            groups: _,
+            rows,
+            units: _,
+            windows: _,
+            last: _,
+            next_arrival: _,
+            on: _,
+        } = self;
+        rows.end();
     }
 }

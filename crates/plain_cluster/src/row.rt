@@ -3,7 +3,7 @@
 ghost use Rattle.std.specs.Prelude.{◌≡◌, ◌≤◌, ◌&&◌, ◌==◌, int_lt};
 ghost use Rattle.flat_policy.specs.Policy.Precedence.{precedes};
 ghost use Rattle.flat_policy.specs.Policy.Queue.{in_clutch, in_lane, order_number};
-ghost use Rattle.plain_cluster.specs.Entries.{clutch};
+ghost use Rattle.plain_cluster.specs.Entries.{clutch, is_unbound_to};
 
 use bucket_tables::Lane;
 use sched_base::limits::MOST_BASE;
@@ -112,6 +112,14 @@ impl Row {
     {
         let facts = self.facts();
         facts.bound.is_none() && facts.group == group && facts.bucket.index() == bucket.index()
+    }
+
+    /// Whether the thread is unbound and of this bucket or a higher one.
+    pub fn is_unbound_to(&self, bucket: Bucket) -> bool
+        ensures { result ≡ is_unbound_to bucket self.now.entry }
+    {
+        let facts = self.facts();
+        facts.bound.is_none() && facts.bucket.index() <= bucket.index()
     }
 
     /// Whether it entered so that it goes first at one priority: the heads before the tails, the

@@ -1,9 +1,11 @@
 //! Passes over rows.
 
-ghost use Rattle.std.specs.Prelude.{◌≡◌, ◌≤◌, filter, length};
+ghost use Rattle.std.specs.Prelude.{◌≡◌, ◌≤◌, ◌<◌, filter, length};
+ghost use Rattle.std.specs.Option.{ForSome};
+ghost use Rattle.flat_policy.specs.Policy.Clusters.{standing_among};
 ghost use Rattle.flat_policy.specs.Policy.Precedence.{greatest_pri};
 ghost use Rattle.flat_policy.specs.Policy.Queue.{in_clutch, in_lane};
-ghost use Rattle.plain_cluster.specs.Entries.{clutch, entries_of};
+ghost use Rattle.plain_cluster.specs.Entries.{clutch, entries_of, entry_at, is_unbound_to, slots_of};
 
 use crate::row::Row;
 use bucket_tables::Lane;
@@ -50,4 +52,32 @@ pub fn greatest_in_clutch(rows: &[Row], group: u8, bucket: Bucket) -> u8
         }
     }
     greatest
+}
+
+/// Where the entry stands that lies in a slot and has an arrival; `None` exactly where there is
+/// none.
+pub fn place_of(rows: &[Row], slot: u32, arrival: u64) -> Option<usize>
+    ensures place { entry_at rows.now result ≡ standing_among slot arrival (entries_of rows.now) (slots_of rows.now) }
+    ensures there { ForSome result (λ place. place < length rows.now) }
+{
+    for (place, row) in rows.iter().enumerate() {
+        if row.is_at(slot, arrival) {
+            return Some(place);
+        }
+    }
+    None
+}
+
+/// How many unbound entries are of a bucket or a higher one.
+pub fn count_unbound(rows: &[Row], bucket: Bucket) -> usize
+    ensures count { result ≡ length (filter (is_unbound_to bucket) (entries_of rows.now)) }
+    ensures most { result ≤ length rows.now }
+{
+    let mut count = 0;
+    for row in rows {
+        if row.is_unbound_to(bucket) {
+            count += 1;
+        }
+    }
+    count
 }

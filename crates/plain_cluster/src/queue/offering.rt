@@ -1,7 +1,7 @@
 //! Which thread is offered to another cluster.
 
 ghost use Rattle.std.specs.Option.{ForSome};
-ghost use Rattle.std.specs.Prelude.{◌≡◌, ◌<◌, ◌^◌, ◌&&◌, MatchOption, Some, false, length, true};
+ghost use Rattle.std.specs.Prelude.{◌≡◌, ◌<◌, ◌^◌, ◌&&◌, MatchOption, None, Some, false, filter, fold, length, true};
 ghost use Rattle.sched_base.specs.declared.buckets.Bucket.{Bucket};
 ghost use Rattle.flat_policy.specs.Laws.Choice.{better};
 ghost use Rattle.flat_policy.specs.Laws.Offers.{IsLowestMasked};
@@ -9,7 +9,7 @@ ghost use Rattle.flat_policy.specs.Policy.ClusterSteps.{facts_of, flat_after_off
 ghost use Rattle.flat_policy.specs.Policy.Offer.{foreign_before, offered, offered_foreign, offered_masked, prefers};
 ghost use Rattle.flat_policy.specs.Policy.Queue.{Queued, has_entries, lane};
 ghost use Rattle.flat_policy.specs.Policy.Setup.{mask_has};
-ghost use Rattle.plain_cluster.specs.Entries.{entry_at};
+ghost use Rattle.plain_cluster.specs.Entries.{entries_of, entry_at};
 ghost use Rattle.plain_cluster.specs.Queues.{IsQueue, Leaves, flat_of};
 
 use super::Queue;
@@ -83,13 +83,7 @@ impl Queue {
     {
         choice_of_entries_is_one();
         offers_are_one();
-        let mut first = None;
-        for (place, row) in self.rows.as_slice().iter().enumerate() {
-            if prefers(row, to) {
-                first = better_foreign(self.rows.as_slice(), first, place);
-            }
-        }
-        first
+        best_foreign(self.rows.as_slice(), to)
     }
 
     /// Where the entry stands that is offered of those in the mask.
@@ -146,4 +140,19 @@ fn better_foreign(rows: &[Row], first: Option<usize>, place: usize) -> Option<us
         Some(best) if !foreign_before(&rows[place], &rows[best]) => first,
         _ => Some(place),
     }
+}
+
+/// The place of the best entry of those that prefer the other cluster.
+fn best_foreign(rows: &[Row], to: u8) -> Option<usize>
+    ensures best { entry_at rows.now result
+        ≡ fold (better foreign_before) None (filter (λ e. prefers to e.facts) (entries_of rows.now)) }
+    ensures there { ForSome result (λ place. place < length rows.now) }
+{
+    let mut first = None;
+    for (place, row) in rows.iter().enumerate() {
+        if prefers(row, to) {
+            first = better_foreign(rows, first, place);
+        }
+    }
+    first
 }

@@ -1,6 +1,6 @@
 //! Which lane is chosen, and which of its threads goes first.
 
-ghost use Rattle.std.specs.Prelude.{◌≡◌, ◌≤◌, ◌<◌, ◌+◌, ◌^◌, IfSome, Some, length};
+ghost use Rattle.std.specs.Prelude.{◌≡◌, ◌≤◌, ◌<◌, ◌+◌, ◌^◌, Some, length};
 ghost use Rattle.std.specs.Option.{ForSome};
 ghost use Rattle.bound_buckets.specs.Tops.{top_of, tops_of};
 ghost use Rattle.flat_policy.specs.Laws.Choice.{better};
@@ -56,6 +56,10 @@ impl Queue {
         ensures left { Leaves self.old self.new (pick self.old.windows.times now (flat_of self.old))
             (selected self.old.windows.times now (flat_of self.old)) }
     {
+        chooses_a_filled_lane();
+        pick_stands_in_lane();
+        choice_of_entries_is_one();
+        first_goes_by_keys();
         self.windows.expire(now);
         if self.rows.len() == 0 {
             self.last = now;
@@ -137,7 +141,7 @@ impl Queue {
         requires { IsQueue self.now.groups self.now }
         ensures first { entry_at self.now.rows.rows result
             ≡ unpreceded (precedes_in_lane (flat_of self.now)) (lane_entries (flat_of self.now) lane) }
-        ensures there { IfSome result (λ place. place < length self.now.rows.rows) }
+        ensures there { ForSome result (λ place. place < length self.now.rows.rows) }
     {
         choice_of_entries_is_one();
         first_goes_by_keys();

@@ -1,5 +1,4 @@
-use Rattle.std.proofs.Common.{◌≡◌, ◌<◌, List, Option, ℕ, get_or, length, Some, ap, sym, ◌∙◌, subst}
-use Rattle.std.specs.Option.{ForSome}
+use Rattle.std.proofs.Common.{◌≡◌, ◌<◌, List, get_or, length, ap, sym, ◌∙◌}
 use Rattle.flat_policy.specs.Laws.Units.{goes_by_keys}
 use Rattle.plain_cluster.specs.Entries.{Slotted}
 use Rattle.plain_cluster.specs.Queues.{flat_of}
@@ -17,7 +16,7 @@ pub goes_first-requires-clause-other : goal.goes_first-requires-clause-other
 goes_first-requires-clause-other c =
     let q = c.args.self.now in
     let y = c.index-rows-best.result in
-    let within : c.in-Some.best < length q.rows.rows = subst (λ (o : Option ℕ). ForSome o (λ best. best < length q.rows.rows)) c.in-Some.is c.requires.first in
+    let within : c.in-Some.best < length q.rows.rows = c.requires.first c.in-Some.best c.in-Some.is in
     place_there q.groups q c.in-Some.best y c.requires.queue within (c.index-rows-best.is ∙ ap (λ (rs : List Slotted). get_or rs c.in-Some.best y) c.as_slice-rows.ensures)
 
 pub returns-in-Some-clause-better : goal.returns-in-Some-clause-better
@@ -25,7 +24,7 @@ returns-in-Some-clause-better c = λ e h.
     let q = c.args.self.now in
     let x = c.index-rows-place.result in
     let y = c.index-rows-best.result in
-    let within : c.in-Some.best < length q.rows.rows = subst (λ (o : Option ℕ). ForSome o (λ best. best < length q.rows.rows)) c.in-Some.is c.requires.first in
+    let within : c.in-Some.best < length q.rows.rows = c.requires.first c.in-Some.best c.in-Some.is in
     best_stays (goes_by_keys (flat_of q)) q.rows.rows c.args.place c.in-Some.best x y c.args.first e within
     (c.index-rows-place.is ∙ ap (λ (rs : List Slotted). get_or rs c.args.place x) c.as_slice-rows.ensures)
     (c.index-rows-best.is ∙ ap (λ (rs : List Slotted). get_or rs c.in-Some.best y) c.as_slice-rows.ensures)
@@ -36,7 +35,7 @@ returns-in_default-clause-better c = λ e h.
     let q = c.args.self.now in
     let x = c.index-rows-place.result in
     let y = c.index-rows-best.result in
-    let within : c.in-Some.best < length q.rows.rows = subst (λ (o : Option ℕ). ForSome o (λ best. best < length q.rows.rows)) c.in-Some.is c.requires.first in
+    let within : c.in-Some.best < length q.rows.rows = c.requires.first c.in-Some.best c.in-Some.is in
     best_goes (goes_by_keys (flat_of q)) q.rows.rows c.args.place c.in-Some.best x y c.args.first e within
     (c.index-rows-place.is ∙ ap (λ (rs : List Slotted). get_or rs c.args.place x) c.as_slice-rows.ensures)
     (c.index-rows-best.is ∙ ap (λ (rs : List Slotted). get_or rs c.in-Some.best y) c.as_slice-rows.ensures)
