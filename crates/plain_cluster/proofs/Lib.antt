@@ -7,3 +7,7 @@ pub mod Leaving
 pub mod Picking
 pub mod Tops
 pub mod Better
+pub mod Repriced
+pub mod Standing
+pub mod Tables
+pub mod Turns

@@ -3,3 +3,4 @@ pub mod RowParts
 pub mod RowsParts
 pub mod Queues
 pub mod Repricing
+pub mod PlainParts

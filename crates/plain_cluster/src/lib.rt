@@ -5,6 +5,7 @@
 #![tactic(auto)]
 
 mod counts;
+mod plain;
 mod queue;
 mod row;
 mod rows;
@@ -12,3 +13,4 @@ mod scans;
 mod units;
 
 pub use flat_policy::cluster::Cluster;
+pub use plain::PlainCluster;

@@ -8,6 +8,7 @@ mod entering;
 mod leaving;
 mod offering;
 mod picking;
+mod refreshing;
 mod scanning;
 
 use crate::rows::Rows;

@@ -1,10 +1,12 @@
 //! The rows of a cluster, and the slots that they lie in.
 
 ghost use Rattle.std.specs.List.{remove};
-ghost use Rattle.std.specs.Prelude.{◌≡◌, ◌≤◌, ◌<◌, ◌+◌, ◌-◌, ◌++◌, ◌∷◌, [], Contains, OnErr, OnOk, Some, length};
+ghost use Rattle.std.specs.Prelude.{◌≡◌, ◌≤◌, ◌<◌, ◌+◌, ◌-◌, ◌++◌, ◌∷◌, [], Contains, OnErr, OnOk, Some, count_by, length, map, slice_get, ℕ};
 ghost use Rattle.flat_policy.specs.Policy.Queue.{Queued, order_number};
-ghost use Rattle.plain_cluster.specs.Entries.{entry_at, slots_of};
+ghost use Rattle.plain_cluster.specs.Entries.{Slotted, entry_at, slots_of};
+ghost use Rattle.plain_cluster.specs.Repricing.{CanPrice, is_changed, priced};
 
+use crate::counts::{Counts, reprice_rows};
 use crate::row::Row;
 use sched_base::Thread;
 use sched_base::limits::MOST_BASE;
@@ -113,6 +115,16 @@ impl Rows {
         let row = self.rows.remove(place);
         self.free.push_reserved(row.slot());
         row.into_thread()
+    }
+
+    /// Decays all rows to a moment and prices them by counts, and tells how many priorities changed.
+    pub fn reprice(&mut self, counts: &Counts, now: u64) -> u32
+        requires { (place : ℕ) (r : Slotted) → slice_get self.old.rows place ≡ Some r → CanPrice counts.now r }
+        ensures rows { self.new.rows ≡ map (priced counts.now now) self.old.rows }
+        ensures spare { self.new.spare ≡ self.old.spare }
+        ensures changed { result ≡ count_by (is_changed counts.now now) self.old.rows }
+    {
+        reprice_rows(&mut self.rows, counts, now)
     }
 
     /// Ends rows of which there are none.

@@ -15,20 +15,20 @@ pub loop-place-preserved : goal.loop-place-preserved
 loop-place-preserved c =
     let rows = c.args.rows.now in
     let i = c.loop-place.place in
-    let x = c.row-item.result in
+    let x = c.index-rows-place.result in
     let inv = c.loop-place.invariant in
     let p = λ (e : Queued). prefers c.args.to e.facts in
     elim c.if-prefers.branch [
       | then-prefers w ↦ record {
         first = ap (entry_at rows) w.first-is
-            ∙ (w.better_foreign-first.ensures.better x.entry (entry_there rows i x c.loop-place-test.true c.row-item.is)
+            ∙ (w.better_foreign-first.ensures.better x.entry (entry_there rows i x c.loop-place-test.true c.index-rows-place.is)
             ∙ (ap (λ (o : Option Queued). better foreign_before o x.entry) inv.first
-            ∙ sym (folded_yes (better foreign_before) None p rows i x c.loop-place-test.true c.row-item.is (sym c.prefers.ensures ∙ w.if-prefers.true))));
+            ∙ sym (folded_yes (better foreign_before) None p rows i x c.loop-place-test.true c.index-rows-place.is (sym c.prefers.ensures ∙ w.if-prefers.true))));
         there = λ y h. w.better_foreign-first.ensures.there y (sym w.first-is ∙ h);
       }
       | else-prefers w ↦ record {
         first = ap (entry_at rows) w.first-is
-            ∙ (inv.first ∙ sym (folded_no (better foreign_before) None p rows i x c.loop-place-test.true c.row-item.is (sym c.prefers.ensures ∙ w.if-prefers.false)));
+            ∙ (inv.first ∙ sym (folded_no (better foreign_before) None p rows i x c.loop-place-test.true c.index-rows-place.is (sym c.prefers.ensures ∙ w.if-prefers.false)));
         there = λ y h. inv.there y (sym w.first-is ∙ h);
       }
     ]
