@@ -76,16 +76,17 @@ takes_out law groups q i rows fs now e k h left more follow =
       spare = more;
       flags = follow ∙ ap (λ (xs : List Queued). map (λ (l : LaneState). list_any (in_lane l.lane) xs) q.windows.lanes) (sym entries);
       times = refl;
+      groups = refl;
     }
 
 -- then its clutch bucket takes the next turn, or loses its own
 pub takes_turn : (q n : Queue) (e : Queued) (s : Flat) (k : Clutch) → TakesOut q n e s
     → TakesOut q (record n { units = record n.units { turns = set n.units.turns (clutch_place k) (Some n.units.next_turn); next_turn = n.units.next_turn + 1 } }) e (with_next_turn k s)
-takes_turn q n e s k t = record { flat = ap (with_next_turn k) t.flat; slots = t.slots; spare = t.spare; flags = t.flags; times = t.times }
+takes_turn q n e s k t = record { flat = ap (with_next_turn k) t.flat; slots = t.slots; spare = t.spare; flags = t.flags; times = t.times; groups = t.groups }
 
 pub loses_turn : (q n : Queue) (e : Queued) (s : Flat) (k : Clutch) → TakesOut q n e s
     → TakesOut q (record n { units = record n.units { turns = set n.units.turns (clutch_place k) None } }) e (without_turn k s)
-loses_turn q n e s k t = record { flat = ap (without_turn k) t.flat; slots = t.slots; spare = t.spare; flags = t.flags; times = t.times }
+loses_turn q n e s k t = record { flat = ap (without_turn k) t.flat; slots = t.slots; spare = t.spare; flags = t.flags; times = t.times; groups = t.groups }
 
 pub as_flat : (q n : Queue) (e : Queued) (s r : Flat) → s ≡ r → TakesOut q n e s → TakesOut q n e r
 as_flat q n e s r same t = subst (TakesOut q n e) same t

@@ -11,3 +11,4 @@ pub mod Repriced
 pub mod Standing
 pub mod Tables
 pub mod Turns
+pub mod Wholes

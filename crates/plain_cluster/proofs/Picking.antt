@@ -218,9 +218,9 @@ first_found one keys groups q at k =
     (one (goes_by_keys s) (lane_entries s at) by.orders).by_scan ∙ sym by.first
 
 -- the pick leaves a queue whose windows have expired, and in which its lane was chosen
-pub selects : (q x n left : Queue) (now : ℕ) (at : Lane) (e : Queued) → flat_of x ≡ expired x.windows.times (flat_of q) now → x.rows ≡ q.rows → x.windows.times ≡ q.windows.times → IsChosen x n now at
+pub selects : (q x n left : Queue) (now : ℕ) (at : Lane) (e : Queued) → flat_of x ≡ expired x.windows.times (flat_of q) now → x.rows ≡ q.rows → x.windows.times ≡ q.windows.times → x.groups ≡ q.groups → IsChosen x n now at
     → pick x.windows.times now (flat_of q) ≡ Some e → TakesOut n left e (removed_by_selection e now (flat_of n)) → TakesOut q left e (selected x.windows.times now (flat_of q))
-selects q x n left now at e is rows times c picked t =
+selects q x n left now at e is rows times groups c picked t =
     let same = c.rows ∙ rows in
     record {
       flat = t.flat ∙ selected_is x n (flat_of q) now at e is c picked;
@@ -228,6 +228,7 @@ selects q x n left now at e is rows times c picked t =
       spare = t.spare ∙ ap (λ (r : RowList). r.spare + 1) same;
       flags = t.flags;
       times = t.times ∙ (c.times ∙ times);
+      groups = t.groups ∙ (c.groups ∙ groups);
     }
 
 -- there is an entry at each place

@@ -38,6 +38,7 @@ pub record TakesOut (q next : Queue) (e : Queued) (s : Flat) : Type 0 where
   pub spare : next.rows.spare ≡ q.rows.spare + 1
   pub flags : FlagsFollow next
   pub times : next.windows.times ≡ q.windows.times
+  pub groups : next.groups ≡ q.groups
 
 -- no entry left, and the queue is then this one
 pub record StaysWith (q next : Queue) (s : Flat) : Type 0 where
@@ -45,6 +46,7 @@ pub record StaysWith (q next : Queue) (s : Flat) : Type 0 where
   pub rows : next.rows ≡ q.rows
   pub flags : FlagsFollow next
   pub times : next.windows.times ≡ q.windows.times
+  pub groups : next.groups ≡ q.groups
 
 -- an entry left, where there is one
 abbrev pub Leaves : Queue → Queue → Option Queued → Flat → Type 0

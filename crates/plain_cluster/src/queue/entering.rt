@@ -40,6 +40,7 @@ impl Queue {
         ensures spare { self.new.rows.spare + 1 ≡ self.old.rows.spare }
         ensures flags { FlagsFollow self.new }
         ensures times { self.new.windows.times ≡ self.old.windows.times }
+        ensures groups { self.new.groups ≡ self.old.groups }
         ensures slot { ¬ Contains (slots_of self.old.rows.rows) result.slot }
         ensures cluster { result.cluster ≡ cluster }
         ensures arrival { result.arrival ≡ self.old.next_arrival }
@@ -151,6 +152,7 @@ impl Queue {
         ensures spare { self.new.rows.spare + 1 ≡ self.old.rows.spare }
         ensures slot { ¬ Contains (slots_of self.old.rows.rows) result }
         ensures windows { self.new.windows ≡ self.old.windows }
+        ensures groups { self.new.groups ≡ self.old.groups }
     {
         let (group, bucket) = (facts.group, facts.bucket);
         let was_empty = !self.has_clutch(group, bucket);

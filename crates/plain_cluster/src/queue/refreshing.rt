@@ -1,6 +1,6 @@
 //! Pricing every entry anew.
 
-ghost use Rattle.std.specs.Prelude.{◌≡◌, ◌≤◌, ◌<◌, ◌+◌, ◌*◌, ◌^◌, length, slice_index, true};
+ghost use Rattle.std.specs.Prelude.{◌≡◌, ◌≤◌, ◌<◌, ◌+◌, ◌*◌, ◌^◌, length, slice_index, true, ℕ};
 ghost use Rattle.sched_base.specs.Bucket.{index};
 ghost use Rattle.sched_base.specs.declared.buckets.Bucket.{Bucket};
 ghost use Rattle.flat_policy.specs.Laws.Refreshing.{with_turns_of};
@@ -134,18 +134,18 @@ impl Queue {
     /// turns, in the order of groups.
     fn renew_turns(&mut self, before: &Table<MOST_GROUPS, BUCKET_COUNT>, bucket: Bucket)
         requires groups { self.old.groups ≤ MOST_GROUPS }
-        requires table { length before.now ≡ MOST_GROUPS }
         requires places { length self.old.units.spans ≡ self.old.groups * 6 }
         requires turn { self.old.units.next_turn < 2 ^ 62 + 320 }
         ensures queue { self.new ≡ record self.old { units = self.new.units } }
         ensures spans { self.new.units.spans ≡ self.old.units.spans }
         ensures turn { self.new.units.next_turn ≤ self.old.units.next_turn + 64 }
-        ensures turns { (s : Flat) → TopsAre self.old.groups s before.now → s.spans ≡ self.old.units.spans
-            → flat_of self.new ≡ with_turns_of self.old.groups s (flat_of self.old) bucket }
+        ensures turns { (groups : ℕ) (s : Flat) → self.old.groups ≡ groups → TopsAre groups s before.now → s.spans ≡ self.old.units.spans
+            → flat_of self.new ≡ with_turns_of groups s (flat_of self.old) bucket }
     {
         for group in 0..self.groups {
-            let top = greatest_in_clutch(self.rows.as_slice(), group, bucket);
-            if before.get(group as usize, bucket.index() as usize) != u64::from(top) {
+            let was = before.get(group as usize, bucket.index() as usize);
+            let top = u64::from(greatest_in_clutch(self.rows.as_slice(), group, bucket));
+            if was != top {
                 self.units.take_turn(group, bucket);
             }
         }

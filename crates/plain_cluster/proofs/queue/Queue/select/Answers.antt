@@ -20,7 +20,7 @@ returns-then-len-eq0-clause-left c =
     let none = no_pick c.chooses_a_filled_lane.ensures q.groups x (flat_of q) now xq.1 xq.0 (sym c.len.ensures ∙ c.if-len-eq0.true) in
     subst (λ (ts : List Times). Leaves q n (pick ts now (flat_of q)) (selected ts now (flat_of q))) xq.2
     (subst (λ (o : Option Queued). Leaves q n o (selected w.times now (flat_of q))) (sym none.0)
-    (record { flat = sym none.1; rows = refl; flags = xq.0.flags; times = xq.2 }))
+    (record { flat = sym none.1; rows = refl; flags = xq.0.flags; times = xq.2; groups = refl }))
 
 pub choose-lane-requires-clause-queue : goal.choose-lane-requires-clause-queue
 choose-lane-requires-clause-queue c =
@@ -56,7 +56,7 @@ returns-in-Some-clause-left c =
     let m = c.take_selected.new.self in
     subst (λ (ts : List Times). Leaves q m (pick ts now (flat_of q)) (selected ts now (flat_of q))) xq.2
     (subst (λ (o : Option Queued). Leaves q m o (selected w.times now (flat_of q))) (sym picked)
-    (selects q x n m now at e.0 xq.1 refl xq.2 c.choose-lane.ensures picked (c.take_selected.ensures.taken e.0 e.1)))
+    (selects q x n m now at e.0 xq.1 refl xq.2 refl c.choose-lane.ensures picked (c.take_selected.ensures.taken e.0 e.1)))
 
 pub returns-in-None-clause-picked : goal.returns-in-None-clause-picked
 returns-in-None-clause-picked c =

@@ -1,0 +1,26 @@
+use Rattle.std.proofs.Common.{◌≡◌, List, Some, length, ap, sym, ◌∙◌, subst, arith}
+use Rattle.std.specs.List.{slice_get}
+use Rattle.std.proofs.lemmas.List.{length-map}
+use Rattle.plain_cluster.specs.Entries.{EachSlotOnce, RowList, Slotted, slots_of}
+use Rattle.plain_cluster.specs.Repricing.{priced}
+use Rattle.plain_cluster.proofs.Repriced.{priced_slots}
+use Rattle.plain_cluster.proofs.rows.Rows.reprice.Goals as goal
+
+pub reprice_rows-requires-clause-each : goal.reprice_rows-requires-clause-each
+reprice_rows-requires-clause-each c = λ place r h. c.requires place r
+    (ap (λ (v : RowList). slice_get v.rows place) (sym c.self.view_is) ∙ (ap (λ (xs : List Slotted). slice_get xs place) (sym c.deref_mut.ensures.value) ∙ h))
+
+pub invariant_of-self : goal.invariant_of-self
+invariant_of-self c =
+    let i = c.self.inside in
+    let f = priced c.args.counts.now c.args.now in
+    let rows = c.reprice_rows.ensures.rows in
+    let same = c.deref_mut.ensures.value in
+    let slots : slots_of c.reprice_rows.new.rows ≡ slots_of i.rows.items = ap slots_of rows ∙ (priced_slots c.args.counts.now c.args.now c.deref_mut.result.now ∙ ap slots_of same) in
+    let long : length c.reprice_rows.new.rows ≡ length i.rows.items = ap length rows ∙ (length-map c.deref_mut.result.now f ∙ ap length same) in
+    record {
+      slots = subst (λ ks. EachSlotOnce ks i.free.items) (sym slots) c.self.invariant.slots;
+      rows_room = omega (arith, long, c.self.invariant.rows_room);
+      free_room = omega (arith, long, c.self.invariant.free_room);
+      few = omega (arith, long, c.self.invariant.few);
+    }
