@@ -12,3 +12,4 @@ pub mod Standing
 pub mod Tables
 pub mod Turns
 pub mod Wholes
+pub mod Refreshed

@@ -9,7 +9,7 @@ use Rattle.flat_policy.specs.Policy.Clusters.{ClusterView, IsCluster, after_offe
 use Rattle.flat_policy.specs.Policy.ClusterSteps.{facts_of, flat_after_offer}
 use Rattle.flat_policy.specs.Policy.Moves.{pick, removed, selected}
 use Rattle.flat_policy.specs.Policy.Queue.{Flat, Queued}
-use Rattle.flat_policy.specs.Policy.Setup.{cluster_times}
+use Rattle.flat_policy.specs.Policy.Setup.{cluster_times, cpus_of, times_for}
 use Rattle.plain_cluster.specs.Entries.{Slotted, entries_of, entry_at, is_unbound_to, slots_of}
 use Rattle.plain_cluster.specs.PlainParts.{view_of}
 use Rattle.plain_cluster.specs.Queues.{Leaves, TakesOut, flat_of}
@@ -26,4 +26,8 @@ returns-clause-load c = λ times is.
     let v = c.args.self.now in
     let count : c.count_unbound-count.result ≡ count_by (is_unbound_to b) (entries_of q.rows.rows) =
     c.count_unbound-count.ensures.count ∙ (ap (λ (rs : List Slotted). length (filter (is_unbound_to b) (entries_of rs))) c.as_slice.ensures ∙ length-filter (is_unbound_to b) (entries_of q.rows.rows)) in
-    ?
+    let more = count ∙ ap (λ (w : ClusterView). count_by (is_unbound_to b) w.flat.entries) c.self.view_is in
+    let quantum : c.times-quantum.result ≡ times =
+    c.times-quantum.ensures.times ∙ (ap (λ (w : ClusterView). times_for (cluster_times w.setup w.number) b) c.self.view_is ∙ sym is) in
+    let cpus = c.from.ensures ∙ (c.cpus-cpus.ensures.cpus ∙ ap (λ (w : ClusterView). cpus_of w.setup w.number) c.self.view_is) in
+    ap₂ (λ (m n : ℕ). m / n) (ap₂ (λ (m : ℕ) (t : Times). m * t.quantum) more quantum) cpus
