@@ -1,5 +1,5 @@
 -- The better of the best entry so far and one more, by place.
-use Rattle.std.proofs.Common.{◌≡◌, ℕ, ◌<◌, Bool, true, false, cond, List, get_or, length, Option, Some, refl, sym, ap, ◌∙◌}
+use Rattle.std.proofs.Common.{◌≡◌, ℕ, ◌<◌, Bool, true, false, cond, List, get_or, length, Option, Some, sym, ap, ◌∙◌}
 use Rattle.std.proofs.lemmas.Bool.{cond-false, cond-true}
 use Rattle.flat_policy.specs.Laws.Choice.{better}
 use Rattle.flat_policy.specs.Policy.Queue.{Queued}

@@ -1,5 +1,5 @@
 -- Buckets and lanes by their numbers.
-use Rattle.std.proofs.Common.{◌≡◌, ◌<◌, arith, ℕ, zero, suc, Bool, true, false, ◌==◌, ◌&&◌, not, refl, sym, ap, ap₂, ◌∙◌, eqb-true, eq-eqb}
+use Rattle.std.proofs.Common.{◌≡◌, ◌<◌, arith, ℕ, zero, suc, Bool, true, false, refl, sym, ap, ap₂, ◌∙◌, eqb-true, eq-eqb}
 use Rattle.std.proofs.lemmas.Bool.{and_from, and_parts, not-true}
 use Rattle.sched_base.specs.Bucket.{index}
 use Rattle.sched_base.specs.declared.Bucket.{Bucket}

@@ -1,10 +1,9 @@
 -- What a count says, and facts of each entry at its place.
-use Rattle.std.proofs.Common.{◌≡◌, ℕ, zero, suc, ◌*◌, inl, inr, ◌<◌, ◌==◌, Bool, true, false, not, ◌||◌, cond, List, [], ◌∷◌, filter, get_or, length, refl, sym, ap, ◌∙◌, subst, arith}
+use Rattle.std.proofs.Common.{◌≡◌, ℕ, zero, suc, inl, inr, ◌<◌, ◌==◌, Bool, true, not, ◌||◌, List, [], ◌∷◌, filter, get_or, length, refl, sym, ap, ◌∙◌, subst, arith}
 use Rattle.std.specs.List.{list_any}
 use Rattle.std.proofs.lemmas.Bool.{cond-false, cond-true, cases_Bool, ne_eqb}
 use Rattle.flat_policy.specs.Policy.Queue.{Queued, clutch_of, clutch_place}
 use Rattle.flat_policy.specs.Policy.WellFormed.{EachQueued}
-use Rattle.sched_base.specs.Bucket.{index}
 use Rattle.plain_cluster.specs.Entries.{Slotted, entries_of}
 use Rattle.plain_cluster.specs.Queues.{IsQueue}
 use Rattle.plain_cluster.specs.declared.queue.Queue.{Queue}

@@ -1,13 +1,12 @@
 -- Which lanes have entries, as entries come and go.
-use Rattle.std.proofs.Common.{◌≡◌, ℕ, zero, suc, ◌<◌, Bool, true, false, ◌&&◌, ◌||◌, ◌==◌, cond, List, [], ◌∷◌, ◌++◌, drop, get_or, length, map, take, is_some, refl, sym, ap, ap₂, ◌∙◌, inl, inr, arith}
+use Rattle.std.proofs.Common.{◌≡◌, ℕ, zero, suc, ◌<◌, Bool, true, false, ◌&&◌, ◌||◌, ◌==◌, cond, List, [], ◌∷◌, ◌++◌, get_or, length, map, refl, sym, ap, ap₂, ◌∙◌, inl, inr, arith}
 use Rattle.std.specs.List.{list_any, remove}
 use Rattle.std.proofs.lemmas.Bool.{cases_Bool, cond-false, cond-true, cond_both, or_parts}
 use Rattle.std.proofs.lemmas.List.Folds.{list_any-append, list_any_at}
 use Rattle.sched_base.specs.Bucket.{index}
-use Rattle.sched_base.specs.declared.Bucket.{Bucket}
 use Rattle.sched_base.specs.declared.Bucket.TheVariants.{Ui}
 use Rattle.bucket_tables.specs.declared.Lane.{Lane}
-use Rattle.flat_policy.specs.Policy.Queue.{LaneState, Queued, has_entries, in_lane, lane, lane_of, same_bucket, same_flag, same_lane}
+use Rattle.flat_policy.specs.Policy.Queue.{LaneState, Queued, has_entries, in_lane, lane, lane_of, same_flag, same_lane}
 use Rattle.flat_policy.specs.Policy.Windows.{at_lane, renewed_deadline}
 use Rattle.flat_policy.specs.declared.setup.Times.{Times}
 use Rattle.std.proofs.lemmas.List.{length-map}

@@ -1,16 +1,14 @@
 -- What is left when an entry leaves.
-use Rattle.std.proofs.Common.{◌≡◌, ◌≢◌, eq-eqb, ℕ, suc, ◌+◌, ◌<◌, ◌==◌, Bool, true, false, not, cond, List, ◌++◌, drop, get_or, length, map, set, take, Option, Some, None, is_some, refl, sym, ap, ap₂, ◌∙◌, subst, arith}
+use Rattle.std.proofs.Common.{◌≡◌, ◌≢◌, eq-eqb, ℕ, suc, ◌+◌, ◌<◌, ◌==◌, Bool, true, false, not, cond, List, ◌++◌, drop, get_or, length, map, set, take, Some, None, is_some, refl, sym, ap, ap₂, ◌∙◌, subst, arith}
 use Rattle.std.specs.List.{drop-map, list_any, remove, slice_get, take-map}
 use Rattle.std.proofs.lemmas.Bool.{cond-false, cond-true, ne_eqb}
 use Rattle.std.proofs.lemmas.List.{length-map, map-append}
 use Rattle.std.proofs.lemmas.Option.{get_or_from_slice_get, slice_get-map, slice_get_within}
 use Rattle.sched_base.specs.declared.Facts.{Facts}
-use Rattle.bucket_tables.specs.declared.Lane.{Lane}
 use Rattle.flat_policy.specs.Laws.Clusters.{EntriesLeaveByPlace}
-use Rattle.flat_policy.specs.Policy.Clusters.{slots_without}
-use Rattle.flat_policy.specs.Policy.Moves.{clutch_has_entries, removed, removed_by_selection, turn_on_leaving, turn_on_selection, with_next_turn, without, without_entry, without_turn}
+use Rattle.flat_policy.specs.Policy.Moves.{clutch_has_entries, removed, removed_by_selection, turn_on_leaving, turn_on_selection, with_next_turn, without_entry, without_turn}
 use Rattle.flat_policy.specs.Policy.Precedence.{clutch_priority}
-use Rattle.flat_policy.specs.Policy.Queue.{Clutch, Flat, LaneState, Queued, clutch_of, clutch_place, has_entries, in_lane, lane_of, same_lane}
+use Rattle.flat_policy.specs.Policy.Queue.{Clutch, Flat, LaneState, Queued, clutch_of, clutch_place, in_lane, lane_of, same_lane}
 use Rattle.windows.specs.Flags.{FillingFollows}
 use Rattle.windows.specs.WindowStates.{with_flag}
 use Rattle.plain_cluster.specs.Entries.{RowList, Slotted, UnitList, entries_of, entry_at, slots_of}

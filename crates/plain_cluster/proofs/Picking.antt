@@ -1,30 +1,28 @@
 -- The pick, by the lane that is chosen and the first of that lane.
-use Rattle.std.proofs.Common.{◌≡◌, ◌≢◌, ℕ, zero, suc, ◌+◌, ◌<◌, ◌||◌, Bool, true, false, not, cond, List, [], ◌∷◌, filter, fold, length, map, Option, Some, None, is_some, option_map, option_and_then, refl, sym, ap, ap₂, ◌∙◌, subst, inl, inr, arith}
+use Rattle.std.proofs.Common.{◌≡◌, ◌≢◌, ℕ, zero, suc, ◌+◌, ◌<◌, ◌||◌, Bool, true, false, cond, List, [], ◌∷◌, filter, fold, length, map, Option, Some, None, is_some, option_and_then, refl, sym, ap, ap₂, ◌∙◌, subst, inl, inr, arith}
 use Rattle.std.specs.List.{list_any}
 use Rattle.std.proofs.lemmas.Bool.{cases_Bool, cond-false, cond-true, cond_both, false≢true}
 use Rattle.std.proofs.lemmas.List.{length-map}
-use Rattle.std.proofs.lemmas.Option.{none-some}
 use Rattle.bucket_tables.specs.declared.Lane.{Lane}
 use Rattle.sched_base.specs.declared.Bucket.TheVariants.{Ui}
 use Rattle.flat_policy.specs.declared.lanes.Kind.{Kind}
 use Rattle.flat_policy.specs.declared.lanes.Kind.TheVariants.{Natural, Pass, Starve}
 use Rattle.flat_policy.specs.declared.setup.Times.{Times}
-use Rattle.flat_policy.specs.Laws.Choice.{ChoiceIsOne, OrdersMembers, better, has_member}
+use Rattle.flat_policy.specs.Laws.Choice.{ChoiceIsOne, better, has_member}
 use Rattle.flat_policy.specs.Laws.Picks.{ChoosesAFilledLane}
 use Rattle.flat_policy.specs.Laws.Units.{FirstGoesByKeys, PickStandsInLane, goes_by_keys}
-use Rattle.flat_policy.specs.Policy.ClusterSteps.{facts_of}
 use Rattle.flat_policy.specs.Policy.Moves.{clutch_has_entries, pick, pick_in, removed_by_selection, selected, selected_by, with_next_turn, without_entry, without_turn}
 use Rattle.flat_policy.specs.Policy.Precedence.{precedes_in_lane}
-use Rattle.flat_policy.specs.Policy.Queue.{Clutch, Flat, LaneState, Queued, clutch_of, has_entries, in_lane, lane, lane_entries, same_lane}
+use Rattle.flat_policy.specs.Policy.Queue.{Flat, LaneState, Queued, clutch_of, has_entries, in_lane, lane, lane_entries, same_lane}
 use Rattle.flat_policy.specs.Policy.Setup.{times_for}
 use Rattle.flat_policy.specs.Policy.Unpreceded.{unpreceded}
 use Rattle.flat_policy.specs.Policy.WellFormed.{WellFormed}
-use Rattle.flat_policy.specs.Policy.Windows.{Choice, above_ui, at_lane, chosen, chosen_by_deadline, chosen_of, chosen_under, expired, expired_warp, expired_window, window_over, renewed_deadline, window_after, windows_after}
+use Rattle.flat_policy.specs.Policy.Windows.{Choice, above_ui, at_lane, chosen, chosen_of, chosen_under, expired, expired_warp, expired_window, window_over, renewed_deadline, window_after, windows_after}
 use Rattle.windows.specs.Flags.{AreWindowsOf, ChoicesAgree}
 use Rattle.windows.specs.WindowStates.{WindowState, filled_of}
 use Rattle.flat_policy.specs.Policy.Clusters.{slots_without}
 use Rattle.plain_cluster.specs.Entries.{RowList, Slotted, entries_of, entry_at, slots_of}
-use Rattle.plain_cluster.specs.Queues.{FlagsFollow, IsChosen, IsQueue, Leaves, StaysWith, TakesOut, flat_of}
+use Rattle.plain_cluster.specs.Queues.{IsChosen, IsQueue, TakesOut, flat_of}
 use Rattle.plain_cluster.specs.declared.queue.Queue.{Queue}
 use Rattle.plain_cluster.proofs.Flags.{names_stay}
 

@@ -1,18 +1,18 @@
 -- The queue after a refresh.
 use Rattle.std.specs.List.{list_any}
-use Rattle.std.proofs.Common.{◌≡◌, ℕ, ◌≤◌, Bool, List, length, map, refl, sym, ap, ◌∙◌}
+use Rattle.std.proofs.Common.{◌≡◌, ℕ, List, map, sym, ap, ◌∙◌}
 use Rattle.sched_base.specs.declared.Bucket.{Bucket}
 use Rattle.sched_base.specs.declared.Bucket.TheVariants.{Bg, Df, Fg, Ini, Ut}
 use Rattle.flat_policy.specs.Laws.Refreshing.{RefreshesByBucket, with_turns_of}
 use Rattle.flat_policy.specs.Policy.Queue.{Flat, LaneState, Queued, has_entries, in_lane}
-use Rattle.flat_policy.specs.Policy.Refresh.{refreshed, repriced, repriced_count, with_new_prices}
-use Rattle.plain_cluster.specs.Entries.{RowList, Slotted, UnitList, entries_of, slots_of}
+use Rattle.flat_policy.specs.Policy.Refresh.{refreshed, with_new_prices}
+use Rattle.plain_cluster.specs.Entries.{RowList, UnitList, entries_of}
 use Rattle.plain_cluster.specs.Queues.{FlagsFollow, IsQueue, flat_of}
-use Rattle.plain_cluster.specs.Repricing.{CountsAre, TopsAre, is_changed, priced}
+use Rattle.plain_cluster.specs.Repricing.{CountsAre, TopsAre, priced}
 use Rattle.plain_cluster.specs.declared.counts.Counts.{Counts}
 use Rattle.plain_cluster.specs.declared.queue.Queue.{Queue}
 use Rattle.plain_cluster.proofs.Flags.{map_alike}
-use Rattle.plain_cluster.proofs.Repriced.{changed_are, lanes_alike, priced_are, priced_slots}
+use Rattle.plain_cluster.proofs.Repriced.{lanes_alike, priced_are}
 
 -- the turns of one bucket were renewed
 pub record Renews (q n : Queue) (tops : List (List ℕ)) (b : Bucket) : Type 0 where

@@ -1,5 +1,5 @@
 -- Rows priced anew, one after the other.
-use Rattle.std.proofs.Common.{◌≡◌, ℕ, zero, suc, ◌+◌, ◌<◌, ◌≤◌, ◌==◌, ◌++◌, ◌&&◌, ◌||◌, eq-eqb, Bool, true, not, cond, Contains, List, [], ◌∷◌, count_by, drop, filter, get_or, is_some, length, map, Some, take, refl, sym, ap, ap₂, ◌∙◌, inl, inr, subst, arith}
+use Rattle.std.proofs.Common.{◌≡◌, ℕ, zero, suc, ◌+◌, ◌<◌, ◌≤◌, ◌==◌, ◌++◌, ◌&&◌, ◌||◌, eq-eqb, Bool, true, not, cond, List, [], ◌∷◌, count_by, drop, filter, get_or, is_some, length, map, Some, take, refl, sym, ap, ap₂, ◌∙◌, inl, inr, subst, arith}
 use Rattle.std.specs.List.{list_any, slice_get}
 use Rattle.std.proofs.lemmas.Bool.{and_from, cases_Bool, cond-false, cond-true, cond_both, false≢true}
 use Rattle.std.proofs.lemmas.List.{length-map}
@@ -10,7 +10,7 @@ use Rattle.sched_base.specs.Bucket.{index}
 use Rattle.sched_base.specs.declared.Facts.{Facts}
 use Rattle.bucket_tables.specs.declared.Lane.{Lane}
 use Rattle.flat_policy.specs.Policy.Queue.{Flat, Queued, clutch_entries, clutch_of, in_clutch, in_lane, lane, lane_entries, lane_of, same_bucket, same_lane, unit_entries}
-use Rattle.flat_policy.specs.Policy.Refresh.{is_ui, repriced, repriced_count}
+use Rattle.flat_policy.specs.Policy.Refresh.{is_ui, repriced}
 use Rattle.flat_policy.specs.Policy.Usage.{decay, priority}
 use Rattle.flat_policy.specs.Policy.WellFormed.{EachQueued}
 use Rattle.plain_cluster.specs.Entries.{Slotted, entries_of, slots_of}

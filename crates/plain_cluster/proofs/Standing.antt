@@ -1,5 +1,5 @@
 -- Which entry lies in a slot and has an arrival, one row after the other.
-use Rattle.std.proofs.Common.{◌≡◌, ℕ, suc, ◌+◌, ◌<◌, ◌≤◌, ◌==◌, Bool, true, false, ◌&&◌, cond, List, [], ◌∷◌, drop, drop-cons, get_or, length, Option, Some, None, refl, sym, ap, ◌∙◌, add-one}
+use Rattle.std.proofs.Common.{◌≡◌, ℕ, suc, ◌+◌, ◌<◌, ◌==◌, true, false, ◌&&◌, cond, List, drop, drop-cons, get_or, length, Option, Some, sym, ap, ◌∙◌, add-one}
 use Rattle.std.proofs.lemmas.Bool.{cond-false, cond-true}
 use Rattle.flat_policy.specs.Policy.Clusters.{standing_among}
 use Rattle.flat_policy.specs.Policy.Queue.{Queued}

@@ -1,14 +1,12 @@
 -- Numbers for each unit, group by group.
-use Rattle.std.proofs.Common.{◌≡◌, ℕ, ◌+◌, ◌<◌, Bool, true, cond, List, [], get_or, length, set, is_some, refl, sym, ap, ◌∙◌, inl, inr, arith}
-use Rattle.std.specs.List.{slice_index}
+use Rattle.std.proofs.Common.{◌≡◌, ℕ, ◌+◌, ◌<◌, true, List, [], get_or, length, set, is_some, sym, ap, ◌∙◌, inl, inr, arith}
 use Rattle.std.proofs.lemmas.Bool.{cases_Bool, cases_eq, cond-false, cond-true}
 use Rattle.std.proofs.lemmas.List.{get_or-set_other, get_or-set_same}
 use Rattle.sched_base.specs.Bucket.{index}
 use Rattle.sched_base.specs.declared.Bucket.{Bucket}
-use Rattle.sched_base.specs.declared.Facts.{Facts}
-use Rattle.flat_policy.specs.Policy.Queue.{Clutch, Flat, clutch_entries, clutch_of, lane, lane_entries, unit_entries}
+use Rattle.flat_policy.specs.Policy.Queue.{Clutch, Flat, clutch_entries, clutch_of, lane, lane_entries}
 use Rattle.plain_cluster.specs.Entries.{clutch}
-use Rattle.plain_cluster.specs.Repricing.{CountsAre, cell, count_of}
+use Rattle.plain_cluster.specs.Repricing.{CountsAre, cell}
 use Rattle.plain_cluster.specs.declared.counts.Counts.{Counts}
 
 -- one group more

@@ -1,15 +1,13 @@
 -- The greatest number of a lane, in one pass.
-use Rattle.std.proofs.Common.{◌≡◌, ℕ, ◌==◌, max, not, Bool, true, cond, List, [], ◌∷◌, filter, fold, length, map, Option, Some, None, refl, sym, ap, ap₂, ◌∙◌, arith}
-use Rattle.std.specs.List.{list_any}
+use Rattle.std.proofs.Common.{◌≡◌, ℕ, ◌==◌, max, not, Bool, cond, List, [], ◌∷◌, filter, fold, length, map, Option, Some, None, refl, sym, ap, ap₂, ◌∙◌, arith}
 use Rattle.std.proofs.lemmas.Bool.{cond-true, ne_eqb}
 use Rattle.bucket_tables.specs.declared.Lane.{Lane}
 use Rattle.bound_buckets.specs.Tops.{top_of}
 use Rattle.flat_policy.specs.Laws.Units.{LanePriorityByEntries, scored}
 use Rattle.flat_policy.specs.Policy.Precedence.{greatest}
-use Rattle.flat_policy.specs.Policy.Queue.{Flat, Queued, has_entries, in_lane, lane_entries}
-use Rattle.flat_policy.specs.Policy.Windows.{lane_priority}
+use Rattle.flat_policy.specs.Policy.Queue.{Flat, in_lane, lane_entries}
 use Rattle.plain_cluster.specs.Entries.{higher}
-use Rattle.plain_cluster.proofs.Counted.{any_member, any_passes}
+use Rattle.plain_cluster.proofs.Counted.{any_passes}
 
 -- the highest so far with one more
 abbrev pub higher_with : {X : Type 0} → (X → ℕ) → Option ℕ → X → Option ℕ

@@ -1,13 +1,13 @@
 -- The turns that clutch buckets take in a refresh, group by group.
-use Rattle.std.proofs.Common.{◌≡◌, ℕ, suc, ◌+◌, ◌-◌, ◌<◌, ◌==◌, Bool, true, false, cond, List, [], ◌∷◌, fold, get_or, length, map, refl, sym, ap, ap₂, ◌∙◌, inl, inr, arith, eq-eqb}
-use Rattle.std.proofs.lemmas.Bool.{cases_eq, cond-false, cond-true, ne_eqb}
+use Rattle.std.proofs.Common.{◌≡◌, ℕ, suc, ◌+◌, ◌-◌, ◌<◌, ◌==◌, Bool, cond, List, ◌∷◌, fold, map, sym, ap, ap₂, ◌∙◌, inl, inr, arith, eq-eqb}
+use Rattle.std.proofs.lemmas.Bool.{cases_eq, ne_eqb}
 use Rattle.sched_base.specs.declared.Bucket.{Bucket}
 use Rattle.flat_policy.specs.Policy.Moves.{with_next_turn}
-use Rattle.flat_policy.specs.Policy.Precedence.{clutch_priority, greatest_pri}
-use Rattle.flat_policy.specs.Policy.Queue.{Clutch, Flat, clutch_entries, clutch_place, no_spans}
+use Rattle.flat_policy.specs.Policy.Precedence.{greatest_pri}
+use Rattle.flat_policy.specs.Policy.Queue.{Clutch, Flat, clutch_entries}
 use Rattle.flat_policy.specs.Policy.Refresh.{turn_on_refresh}
 use Rattle.flat_policy.specs.Policy.Setup.{numbers_from}
-use Rattle.flat_policy.specs.Policy.Usage.{Spans, score}
+use Rattle.flat_policy.specs.Policy.Usage.{Spans}
 use Rattle.plain_cluster.specs.Entries.{clutch, score_at}
 
 sum_alike : (a b c : ℕ) → (a + c == b + c) ≡ (a == b)

@@ -1,19 +1,16 @@
 -- The cluster as a whole, after its queue changed.
-use Rattle.std.proofs.Common.{◌≡◌, ℕ, ◌+◌, ◌-◌, ◌<◌, ◌++◌, ◌∷◌, [], max, Bool, Contains, List, Option, Some, None, length, get_or, refl, sym, ap, ap₂, ◌∙◌, subst, arith}
-use Rattle.sched_base.specs.Limits.{moment_limit, most_threads}
+use Rattle.std.proofs.Common.{◌≡◌, ℕ, ◌+◌, ◌-◌, ◌++◌, ◌∷◌, [], max, Bool, Contains, List, Option, Some, None, ap, ap₂, ◌∙◌, subst, arith}
 use Rattle.sched_base.specs.declared.Facts.{Facts}
 use Rattle.flat_policy.specs.declared.setup.Times.{Times}
-use Rattle.flat_policy.specs.Laws.Clusters.{CallsKeepClusters}
-use Rattle.flat_policy.specs.Policy.Clusters.{ClusterView, IsCluster, slots_without, after_offer, after_pull, after_refresh, after_select, entered_in, moment_at, offer_of, pick_of, standing, without_some}
+use Rattle.flat_policy.specs.Policy.Clusters.{ClusterView, IsCluster, slots_without, entered_in, moment_at, offer_of, without_some}
 use Rattle.flat_policy.specs.Policy.ClusterSteps.{flat_after_offer}
-use Rattle.flat_policy.specs.Policy.Moves.{entered, pick, removed, selected}
+use Rattle.flat_policy.specs.Policy.Moves.{entered, pick, selected}
 use Rattle.flat_policy.specs.Policy.Offer.{mask_between, offered}
 use Rattle.flat_policy.specs.Policy.Queue.{Flat, Queued}
-use Rattle.flat_policy.specs.Policy.Setup.{SetupParts, cluster_times, group_count, migrates}
-use Rattle.flat_policy.specs.Policy.Threads.{ThreadFits}
+use Rattle.flat_policy.specs.Policy.Setup.{SetupParts, cluster_times, migrates}
 use Rattle.plain_cluster.specs.Entries.{RowList, entries_of, entry_at, slots_of}
 use Rattle.plain_cluster.specs.PlainParts.{IsPlain, view_of}
-use Rattle.plain_cluster.specs.Queues.{FlagsFollow, Leaves, TakesOut, flat_of}
+use Rattle.plain_cluster.specs.Queues.{FlagsFollow, Leaves, flat_of}
 use Rattle.plain_cluster.specs.declared.plain.PlainCluster.TheInside.{Inside}
 use Rattle.plain_cluster.specs.declared.queue.Queue.{Queue}
 use Rattle.plain_cluster.proofs.Leaving.{read_there}

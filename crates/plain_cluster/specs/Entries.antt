@@ -1,5 +1,5 @@
 -- What the rows of a cluster and the numbers of its clutch buckets mean.
-use Rattle.std.specs.Prelude.{Bool, List, None, Option, Some, count_by, if◌then◌else◌, length, map, max, nat_le, nat_lt, option_map, slice_get, slice_index_or, ℕ, ◌&&◌, ◌+◌, ◌<◌, ◌==◌, ◌^◌, ◌≤◌}
+use Rattle.std.specs.Prelude.{Bool, List, None, Option, Some, count_by, if◌then◌else◌, length, map, max, nat_le, nat_lt, option_map, slice_get, slice_index_or, ℕ, ◌&&◌, ◌+◌, ◌==◌, ◌≤◌}
 use Rattle.sched_base.specs.declared.Bucket.{Bucket}
 use Rattle.sched_base.specs.Bucket.{index}
 use Rattle.flat_policy.specs.Policy.Offer.{is_unbound}

@@ -1,6 +1,5 @@
 -- What the queue in code means.
-use Rattle.std.specs.Prelude.{List, None, Option, Some, true, length, map, ℕ, ◌+◌, ◌<◌, ◌≡◌}
-use Rattle.sched_base.specs.Limits.{most_threads}
+use Rattle.std.specs.Prelude.{List, None, Option, Some, true, map, ℕ, ◌+◌, ◌≡◌}
 use Rattle.bucket_tables.specs.declared.Lane.{Lane}
 use Rattle.flat_policy.specs.Policy.Clusters.{slots_without}
 use Rattle.flat_policy.specs.Policy.Queue.{Flat, LaneState, Queued, has_entries, timeshare_lanes}

@@ -1,9 +1,9 @@
 -- Numbers for each unit of a queue, and entries priced by them.
-use Rattle.std.specs.Prelude.{All, Bool, List, [], if◌then◌else◌, is_some, length, not, slice_index, slice_index_or, ℕ, ◌<◌, ◌==◌, ◌^◌, ◌≡◌, ◌≤◌}
+use Rattle.std.specs.Prelude.{Bool, List, [], if◌then◌else◌, is_some, length, not, slice_index, slice_index_or, ℕ, ◌<◌, ◌==◌, ◌^◌, ◌≡◌, ◌≤◌}
 use Rattle.sched_base.specs.Bucket.{index}
 use Rattle.sched_base.specs.declared.Facts.{Facts}
 use Rattle.flat_policy.specs.Policy.Precedence.{greatest_pri}
-use Rattle.flat_policy.specs.Policy.Queue.{Clutch, Flat, Queued, clutch_entries, clutch_of, unit_entries}
+use Rattle.flat_policy.specs.Policy.Queue.{Clutch, Flat, clutch_entries, clutch_of, unit_entries}
 use Rattle.flat_policy.specs.Policy.Refresh.{is_ui}
 use Rattle.flat_policy.specs.Policy.Usage.{decay, priority}
 use Rattle.plain_cluster.specs.Entries.{Slotted}

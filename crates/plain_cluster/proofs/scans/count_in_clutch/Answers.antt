@@ -1,5 +1,5 @@
-use Rattle.std.proofs.Common.{◌≡◌, ◌<◌, length, arith, ap, sym, ◌∙◌}
-use Rattle.flat_policy.specs.Policy.Queue.{in_clutch, in_lane}
+use Rattle.std.proofs.Common.{arith, sym, ◌∙◌}
+use Rattle.flat_policy.specs.Policy.Queue.{in_clutch}
 use Rattle.plain_cluster.specs.Entries.{clutch}
 use Rattle.plain_cluster.proofs.Scanned.{counted_no, counted_yes}
 use Rattle.plain_cluster.proofs.scans.count_in_clutch.Goals as goal

@@ -1,5 +1,5 @@
 use Rattle.std.proofs.Common.{◌≡◌, ◌≤◌, filter, length, take}
-use Rattle.flat_policy.specs.Policy.Queue.{in_clutch, in_lane}
+use Rattle.flat_policy.specs.Policy.Queue.{in_clutch}
 use Rattle.plain_cluster.specs.Entries.{clutch, entries_of}
 use Rattle.plain_cluster.proofs.scans.count_in_clutch.Given as goal
 

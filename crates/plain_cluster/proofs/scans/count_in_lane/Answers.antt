@@ -1,6 +1,5 @@
-use Rattle.std.proofs.Common.{◌≡◌, ◌<◌, length, arith, ap, sym, ◌∙◌}
-use Rattle.flat_policy.specs.Policy.Queue.{in_clutch, in_lane}
-use Rattle.plain_cluster.specs.Entries.{clutch}
+use Rattle.std.proofs.Common.{arith, sym, ◌∙◌}
+use Rattle.flat_policy.specs.Policy.Queue.{in_lane}
 use Rattle.plain_cluster.proofs.Scanned.{counted_no, counted_yes}
 use Rattle.plain_cluster.proofs.scans.count_in_lane.Goals as goal
 use Rattle.plain_cluster.proofs.scans.count_in_lane.Goals.{then-in_lane, else-in_lane}

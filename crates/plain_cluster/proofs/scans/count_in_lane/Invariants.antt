@@ -1,6 +1,6 @@
 use Rattle.std.proofs.Common.{◌≡◌, ◌≤◌, filter, length, take}
-use Rattle.flat_policy.specs.Policy.Queue.{in_clutch, in_lane}
-use Rattle.plain_cluster.specs.Entries.{clutch, entries_of}
+use Rattle.flat_policy.specs.Policy.Queue.{in_lane}
+use Rattle.plain_cluster.specs.Entries.{entries_of}
 use Rattle.plain_cluster.proofs.scans.count_in_lane.Given as goal
 
 abbrev pub invariant-loop-row : goal.invariant-loop-row

@@ -1,4 +1,4 @@
-use Rattle.std.proofs.Common.{◌≡◌, ◌<◌, length, arith, ap, sym, ◌∙◌}
+use Rattle.std.proofs.Common.{arith, sym, ◌∙◌}
 use Rattle.plain_cluster.specs.Entries.{is_unbound_to}
 use Rattle.plain_cluster.proofs.Scanned.{counted_no, counted_yes}
 use Rattle.plain_cluster.proofs.scans.count_unbound.Goals as goal

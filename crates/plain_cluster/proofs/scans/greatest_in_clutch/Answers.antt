@@ -1,4 +1,4 @@
-use Rattle.std.proofs.Common.{◌≡◌, ◌<◌, length, arith, ap, sym, ◌∙◌}
+use Rattle.std.proofs.Common.{arith, sym, ◌∙◌}
 use Rattle.flat_policy.specs.Policy.Queue.{in_clutch}
 use Rattle.plain_cluster.specs.Entries.{clutch}
 use Rattle.plain_cluster.proofs.Scanned.{greatest_no, greatest_yes}

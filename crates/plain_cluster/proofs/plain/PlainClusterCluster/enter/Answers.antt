@@ -1,21 +1,6 @@
-use Rattle.std.proofs.Common.{◌≡◌, ◌<◌, ◌*◌, ◌/◌, ◌++◌, ◌∷◌, [], max, Bool, Contains, List, Option, ℕ, Some, None, count_by, filter, length, refl, ap, ap₂, sym, ◌∙◌, subst, arith}
-use Rattle.std.proofs.lemmas.List.{length-map}
-use Rattle.std.proofs.lemmas.List.Sums.{length-filter}
-use Rattle.sched_base.specs.declared.Facts.{Facts}
-use Rattle.flat_policy.specs.declared.setup.Times.{Times}
-use Rattle.flat_policy.specs.Laws.Kept.{RisesBy}
-use Rattle.flat_policy.specs.Policy.Aim.{load}
-use Rattle.flat_policy.specs.Policy.Clusters.{ClusterView, IsCluster, after_offer, after_pull, after_select, entered_in, moment_at, offer_of, pick_of, standing}
-use Rattle.flat_policy.specs.Policy.ClusterSteps.{facts_of, flat_after_offer}
-use Rattle.flat_policy.specs.Policy.Moves.{pick, removed, selected}
-use Rattle.flat_policy.specs.Policy.Queue.{Flat, Queued}
-use Rattle.flat_policy.specs.Policy.Setup.{cluster_times}
-use Rattle.plain_cluster.specs.Entries.{Slotted, entries_of, entry_at, is_unbound_to, slots_of}
-use Rattle.plain_cluster.specs.PlainParts.{view_of}
-use Rattle.plain_cluster.specs.Queues.{Leaves, TakesOut, flat_of}
-use Rattle.plain_cluster.proofs.Picking.{there_is}
-use Rattle.plain_cluster.proofs.Standing.{standing_in}
-use Rattle.plain_cluster.proofs.Wholes.{entered_view, left_plain, left_view, offered_leaves, selected_leaves, stands_at, still_plain, whole}
+use Rattle.std.proofs.Common.{Contains, ap, sym, ◌∙◌, subst}
+use Rattle.flat_policy.specs.Policy.Clusters.{ClusterView, IsCluster, entered_in}
+use Rattle.plain_cluster.proofs.Wholes.{entered_view, still_plain}
 use Rattle.plain_cluster.proofs.plain.PlainClusterCluster.enter.Goals as goal
 
 pub invariant_of-self : goal.invariant_of-self

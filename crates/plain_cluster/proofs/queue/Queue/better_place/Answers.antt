@@ -1,4 +1,4 @@
-use Rattle.std.proofs.Common.{◌≡◌, ◌<◌, List, get_or, length, ap, sym, ◌∙◌}
+use Rattle.std.proofs.Common.{◌<◌, List, get_or, length, ap, sym, ◌∙◌}
 use Rattle.flat_policy.specs.Laws.Units.{goes_by_keys}
 use Rattle.plain_cluster.specs.Entries.{Slotted}
 use Rattle.plain_cluster.specs.Queues.{flat_of}

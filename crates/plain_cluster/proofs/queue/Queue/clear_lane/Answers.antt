@@ -1,5 +1,4 @@
-use Rattle.std.proofs.Common.{◌≡◌, List, Bool, false, ap, sym, ◌∙◌}
-use Rattle.flat_policy.specs.Policy.Queue.{lane}
+use Rattle.std.proofs.Common.{◌≡◌, List, Bool, false, ap, sym}
 use Rattle.windows.specs.WindowStates.{with_flag}
 use Rattle.plain_cluster.proofs.Flags.{flags_stay, not_ui_at}
 use Rattle.plain_cluster.proofs.queue.Queue.clear_lane.Goals as goal

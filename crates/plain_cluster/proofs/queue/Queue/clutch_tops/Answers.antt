@@ -1,10 +1,10 @@
-use Rattle.std.proofs.Common.{◌≡◌, ◌<◌, List, ℕ, length, ap, ◌∙◌, arith}
-use Rattle.std.proofs.lemmas.List.{length-replicate, length-set}
+use Rattle.std.proofs.Common.{◌<◌, List, ℕ, length, ap, ◌∙◌, arith}
+use Rattle.std.proofs.lemmas.List.{length-set}
 use Rattle.flat_policy.specs.Policy.Precedence.{greatest_pri}
 use Rattle.flat_policy.specs.Policy.Queue.{Clutch, clutch_entries}
 use Rattle.plain_cluster.specs.Queues.{flat_of}
 use Rattle.plain_cluster.specs.Repricing.{cell}
-use Rattle.plain_cluster.proofs.Tables.{cell_more, counts_are}
+use Rattle.plain_cluster.proofs.Tables.{cell_more}
 use Rattle.plain_cluster.proofs.queue.Queue.clutch_tops.Goals as goal
 
 pub loop-group-preserved : goal.loop-group-preserved

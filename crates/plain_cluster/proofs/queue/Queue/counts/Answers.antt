@@ -1,6 +1,5 @@
-use Rattle.std.proofs.Common.{◌≡◌, ◌<◌, List, ℕ, length, ap, ◌∙◌, arith}
-use Rattle.std.proofs.lemmas.List.{length-replicate, length-set}
-use Rattle.flat_policy.specs.Policy.Precedence.{greatest_pri}
+use Rattle.std.proofs.Common.{◌<◌, List, ℕ, length, ap, ◌∙◌, arith}
+use Rattle.std.proofs.lemmas.List.{length-set}
 use Rattle.flat_policy.specs.Policy.Queue.{Clutch, clutch_entries}
 use Rattle.plain_cluster.specs.Queues.{flat_of}
 use Rattle.plain_cluster.specs.Repricing.{cell}

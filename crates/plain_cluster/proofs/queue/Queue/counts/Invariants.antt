@@ -1,5 +1,4 @@
 use Rattle.std.proofs.Common.{◌≡◌, ◌<◌, length}
-use Rattle.flat_policy.specs.Policy.Precedence.{greatest_pri}
 use Rattle.flat_policy.specs.Policy.Queue.{Clutch, clutch_entries}
 use Rattle.plain_cluster.specs.Queues.{flat_of}
 use Rattle.plain_cluster.specs.Repricing.{cell}

@@ -1,6 +1,5 @@
-use Rattle.std.proofs.Common.{◌≡◌, ◌++◌, ◌∷◌, [], Bool, List, true, cond, map, refl, ap, sym, ◌∙◌}
+use Rattle.std.proofs.Common.{◌≡◌, ◌++◌, ◌∷◌, [], true, cond, map, ap, sym, ◌∙◌}
 use Rattle.std.proofs.lemmas.List.{map-append}
-use Rattle.sched_base.specs.declared.Facts.{Facts}
 use Rattle.flat_policy.specs.Policy.Queue.{LaneState, Queued, has_entries, lane_of, order_number, same_lane}
 use Rattle.windows.specs.WindowStates.{WindowState}
 use Rattle.plain_cluster.specs.Entries.{Slotted, entries_of}

@@ -1,6 +1,5 @@
-use Rattle.std.proofs.Common.{◌≡◌, Bool, List, true, cond, map, refl, ap, sym, ◌∙◌}
+use Rattle.std.proofs.Common.{◌≡◌, List, true, cond, map, refl, ap, sym, ◌∙◌}
 use Rattle.std.proofs.lemmas.Bool.{cond-false}
-use Rattle.bucket_tables.specs.declared.Lane.{Lane}
 use Rattle.flat_policy.specs.Policy.Queue.{LaneState, has_entries, same_lane}
 use Rattle.flat_policy.specs.Policy.Windows.{at_lane, renewed_deadline}
 use Rattle.windows.specs.WindowStates.{WindowState}

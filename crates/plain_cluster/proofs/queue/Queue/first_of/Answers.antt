@@ -1,4 +1,4 @@
-use Rattle.std.proofs.Common.{◌≡◌, ◌<◌, None, List, Option, filter, fold, get_or, length, refl, ap, sym, ◌∙◌, arith}
+use Rattle.std.proofs.Common.{None, List, Option, filter, fold, get_or, length, refl, ap, sym, ◌∙◌, arith}
 use Rattle.std.proofs.lemmas.Option.{none-some}
 use Rattle.flat_policy.specs.Laws.Choice.{better}
 use Rattle.flat_policy.specs.Laws.Units.{goes_by_keys}

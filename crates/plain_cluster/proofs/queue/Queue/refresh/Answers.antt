@@ -1,7 +1,6 @@
-use Rattle.std.proofs.Common.{◌≡◌, List, ap, refl, sym, ◌∙◌, subst}
+use Rattle.std.proofs.Common.{ap, refl, sym, ◌∙◌, subst}
 use Rattle.sched_base.specs.declared.Bucket.TheVariants.{Bg, Df, Fg, Ini, Ut}
-use Rattle.flat_policy.specs.Policy.Refresh.{refreshed}
-use Rattle.plain_cluster.specs.Entries.{Slotted, slots_of}
+use Rattle.plain_cluster.specs.Entries.{slots_of}
 use Rattle.plain_cluster.specs.Queues.{FlagsFollow, flat_of}
 use Rattle.plain_cluster.specs.declared.queue.Queue.{Queue}
 use Rattle.plain_cluster.proofs.Refreshed.{Renews, flags_priced, kept_by, new_prices, renewed}

@@ -1,16 +1,11 @@
-use Rattle.std.proofs.Common.{◌≡◌, ◌<◌, Bool, List, ℕ, true, false, not, get_or, length, is_some, Some, refl, ap, sym, ◌∙◌, subst}
-use Rattle.std.specs.List.{list_any, remove}
-use Rattle.std.proofs.lemmas.Bool.{not-true}
+use Rattle.std.proofs.Common.{◌≡◌, ◌<◌, List, true, false, get_or, length, is_some, ap, sym, ◌∙◌, subst}
 use Rattle.sched_base.specs.declared.Facts.{Facts}
-use Rattle.bucket_tables.specs.declared.Lane.{Lane}
-use Rattle.flat_policy.specs.Policy.Moves.{removed, removed_by_selection, without_entry}
-use Rattle.flat_policy.specs.Policy.Queue.{Clutch, Queued, clutch_of, clutch_place, in_lane, lane_of}
-use Rattle.windows.specs.WindowStates.{with_flag}
-use Rattle.plain_cluster.specs.Entries.{Slotted, UnitList, clutch, entries_of, entry_at}
-use Rattle.plain_cluster.specs.Queues.{TakesOut, flat_of}
-use Rattle.plain_cluster.specs.declared.queue.Queue.{Queue}
+use Rattle.flat_policy.specs.Policy.Moves.{removed, without_entry}
+use Rattle.flat_policy.specs.Policy.Queue.{clutch_of, clutch_place}
+use Rattle.plain_cluster.specs.Entries.{Slotted, UnitList, clutch}
+use Rattle.plain_cluster.specs.Queues.{flat_of}
 use Rattle.plain_cluster.proofs.Counted.{place_there}
-use Rattle.plain_cluster.proofs.Leaving.{as_flat, entries_removed, facts_there, flags_emptied, flags_kept, leaves_last, leaves_other, leaves_same, removed_bound, selected_bound, selects_last, selects_more, takes_out}
+use Rattle.plain_cluster.proofs.Leaving.{as_flat, facts_there, leaves_last, leaves_other, leaves_same, removed_bound}
 use Rattle.plain_cluster.proofs.queue.Queue.remove.Goals as goal
 
 pub returns-then-is_some-clause-taken : goal.returns-then-is_some-clause-taken

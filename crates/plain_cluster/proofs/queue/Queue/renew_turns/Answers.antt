@@ -1,9 +1,9 @@
-use Rattle.std.proofs.Common.{◌≡◌, ℕ, ◌+◌, ◌-◌, ◌<◌, ◌==◌, Bool, List, Some, [], filter, get_or, length, set, ap, sym, ◌∙◌, subst, arith, eq-eqb}
+use Rattle.std.proofs.Common.{◌≡◌, ℕ, ◌+◌, ◌==◌, List, Some, [], filter, get_or, set, ap, sym, ◌∙◌, subst, arith, eq-eqb}
 use Rattle.std.proofs.lemmas.Bool.{cond-false, cond-true, ne_eqb}
 use Rattle.flat_policy.specs.Laws.Refreshing.{with_turns_of}
 use Rattle.flat_policy.specs.Policy.Moves.{with_next_turn}
 use Rattle.flat_policy.specs.Policy.Precedence.{greatest_pri}
-use Rattle.flat_policy.specs.Policy.Queue.{Clutch, Flat, clutch_place, in_clutch}
+use Rattle.flat_policy.specs.Policy.Queue.{Flat, clutch_place, in_clutch}
 use Rattle.flat_policy.specs.Policy.Refresh.{turn_on_refresh}
 use Rattle.plain_cluster.specs.Entries.{Slotted, UnitList, clutch, entries_of}
 use Rattle.plain_cluster.specs.Queues.{flat_of}

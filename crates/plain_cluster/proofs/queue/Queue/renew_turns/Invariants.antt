@@ -1,4 +1,4 @@
-use Rattle.std.proofs.Common.{◌≡◌, ◌≤◌, ◌+◌, ℕ}
+use Rattle.std.proofs.Common.{◌≡◌, ◌≤◌, ◌+◌}
 use Rattle.flat_policy.specs.Laws.Refreshing.{with_turns_of}
 use Rattle.flat_policy.specs.Policy.Queue.{Flat}
 use Rattle.plain_cluster.specs.Queues.{flat_of}

@@ -1,10 +1,9 @@
-use Rattle.std.proofs.Common.{◌≡◌, ◌<◌, Option, Some, None, List, length, refl, ap, sym, ◌∙◌, subst, arith}
+use Rattle.std.proofs.Common.{◌≡◌, Option, Some, List, refl, ap, sym, ◌∙◌, subst}
 use Rattle.flat_policy.specs.declared.setup.Times.{Times}
 use Rattle.flat_policy.specs.Policy.ClusterSteps.{facts_of}
 use Rattle.flat_policy.specs.Policy.Moves.{pick, selected}
 use Rattle.flat_policy.specs.Policy.Queue.{Queued}
-use Rattle.plain_cluster.specs.Entries.{Slotted, entry_at}
-use Rattle.plain_cluster.specs.Queues.{IsQueue, Leaves, flat_of}
+use Rattle.plain_cluster.specs.Queues.{Leaves, flat_of}
 use Rattle.plain_cluster.specs.declared.queue.Queue.{Queue}
 use Rattle.plain_cluster.proofs.Picking.{expired_queue, no_first, no_pick, pick_is_first, selects, there_is}
 use Rattle.plain_cluster.proofs.queue.Queue.select.Goals as goal

@@ -1,4 +1,4 @@
-use Rattle.std.proofs.Common.{◌≡◌, ◌<◌, None, List, filter, fold, get_or, length, refl, ap, ap₂, sym, ◌∙◌, arith}
+use Rattle.std.proofs.Common.{None, List, filter, fold, get_or, length, refl, ap, ap₂, sym, ◌∙◌, arith}
 use Rattle.flat_policy.specs.Laws.Units.{scored}
 use Rattle.flat_policy.specs.Policy.Queue.{in_lane, lane}
 use Rattle.plain_cluster.specs.Entries.{Slotted, entries_of, higher}

@@ -1,4 +1,4 @@
-use Rattle.std.proofs.Common.{◌≡◌, ◌<◌, None, List, Option, filter, fold, length, ap, sym, ◌∙◌}
+use Rattle.std.proofs.Common.{None, List, Option, filter, fold, ap, sym, ◌∙◌}
 use Rattle.flat_policy.specs.Laws.Choice.{better}
 use Rattle.flat_policy.specs.Policy.Offer.{foreign_before, prefers}
 use Rattle.flat_policy.specs.Policy.Queue.{Queued}

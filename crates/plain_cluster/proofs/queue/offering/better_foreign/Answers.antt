@@ -1,4 +1,4 @@
-use Rattle.std.proofs.Common.{◌≡◌, ◌<◌, length, sym, ◌∙◌}
+use Rattle.std.proofs.Common.{◌<◌, length, sym, ◌∙◌}
 use Rattle.flat_policy.specs.Policy.Offer.{foreign_before}
 use Rattle.plain_cluster.proofs.Better.{best_goes, best_stays}
 use Rattle.plain_cluster.proofs.queue.offering.better_foreign.Goals as goal
