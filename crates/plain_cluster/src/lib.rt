@@ -1,7 +1,7 @@
 //! The queue of a cluster as one list of entries, in the order in which they arrived.
 //!
-//! Every call goes over the entries a fixed number of times; a refresh once more for each group
-//! and bucket that has entries. All moments and times are whole microseconds.
+//! Every call but `refresh` goes over the entries a fixed number of times, and `refresh` three times
+//! for each group and bucket. All moments and times are whole microseconds.
 #![tactic(auto)]
 
 mod counts;
