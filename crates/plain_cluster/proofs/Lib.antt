@@ -1,0 +1,15 @@
+pub mod Buckets
+pub mod Flags
+pub mod Scanned
+pub mod Slots
+pub mod Counted
+pub mod Leaving
+pub mod Picking
+pub mod Tops
+pub mod Better
+pub mod Repriced
+pub mod Standing
+pub mod Tables
+pub mod Turns
+pub mod Wholes
+pub mod Refreshed

@@ -1,0 +1,24 @@
+-- What the fields of a cluster mean and keep.
+use Rattle.std.specs.Prelude.{◌≡◌}
+use Rattle.flat_policy.specs.Policy.Clusters.{ClusterView, IsCluster}
+use Rattle.flat_policy.specs.Policy.Setup.{cluster_times, group_count}
+use Rattle.plain_cluster.specs.Entries.{slots_of}
+use Rattle.plain_cluster.specs.Queues.{FlagsFollow, flat_of}
+use Rattle.plain_cluster.specs.declared.plain.PlainCluster.TheInside.{Inside}
+
+-- the cluster as the policy defines it
+abbrev pub view_of : Inside → ClusterView
+view_of p = record {
+  setup = p.setup;
+  number = p.number;
+  flat = flat_of p.queue;
+  slots = slots_of p.queue.rows.rows;
+  spare = p.queue.rows.spare;
+}
+
+-- it keeps what every cluster keeps, its flags say which lanes have entries, and its groups and times are those of the setup
+pub record IsPlain (p : Inside) : Type 0 where
+  pub cluster : IsCluster (view_of p)
+  pub flags : FlagsFollow p.queue
+  pub groups : p.queue.groups ≡ group_count p.setup
+  pub times : p.queue.windows.times ≡ cluster_times p.setup p.number
