@@ -1,0 +1,9 @@
+pub mod Ahead
+pub mod ClusterActs
+pub mod HandActs
+pub mod Joined
+pub mod Outcomes
+pub mod Replies
+pub mod Restricted
+pub mod Sleepers
+pub mod YardActs
