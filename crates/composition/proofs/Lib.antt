@@ -6,4 +6,6 @@ pub mod Outcomes
 pub mod Replies
 pub mod Restricted
 pub mod Sleepers
+pub mod Totals
+pub mod WholeRuns
 pub mod YardActs

@@ -1,5 +1,5 @@
 -- Journals of the clusters and the yard and logs of the actors, each a history by itself, and the machine that they leave.
-use Rattle.std.specs.Prelude.{List, [], length, map, slice_index_or, ℕ, ◌<◌, ◌≡◌}
+use Rattle.std.specs.Prelude.{List, None, [], length, map, slice_index_or, ℕ, ◌<◌, ◌≡◌}
 use Rattle.flat_policy.specs.declared.journal.Line.{Line}
 use Rattle.flat_policy.specs.Policy.Machine.{Hand, MachineState, Sleeper, Yard, empty_hand}
 use Rattle.flat_policy.specs.Policy.Queue.{Flat, empty_flat}
@@ -31,3 +31,7 @@ pub record RunApart (setup : SetupParts) (clusters : List (List Line)) (yard : L
   pub at_clusters : (c : ℕ) → c < cluster_count setup → CRun setup c (slice_index_or clusters c []) (slice_index_or flats c (empty_flat 0))
   pub in_yard : YRun setup yard end
   pub of_actors : (a : ℕ) → a < actor_count setup → Own setup a (slice_index_or logs a [])
+
+-- the logs end with empty hands
+abbrev pub EndEmptyHanded : SetupParts → List (List Line) → Type 0
+EndEmptyHanded setup logs = (a : ℕ) → a < actor_count setup → (hand_after_all setup (empty_hand setup 0) (slice_index_or logs a [])).thread ≡ None

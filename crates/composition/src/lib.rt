@@ -2,7 +2,7 @@
 //! order. Each law is the contract of a function that does nothing but name the laws that it rests on.
 #![tactic(auto)]
 
-ghost use Rattle.composition.specs.Laws.{JoinedRunsAreHistories};
+ghost use Rattle.composition.specs.Laws.{JoinedRunsAreHistories, TotalsAreThoseMade, WorkedRunsAreWhole};
 
 use flat_policy::laws::{empty_is_sound, runs_keep_counts, steps_keep_counts, steps_keep_sound};
 
@@ -11,6 +11,24 @@ use flat_policy::laws::{empty_is_sound, runs_keep_counts, steps_keep_counts, ste
 /// each of them leaves its place in.
 pub fn joined_runs_are_histories()
     ensures { JoinedRunsAreHistories }
+{
+    steps_keep_sound();
+    steps_keep_counts();
+    empty_is_sound();
+    runs_keep_counts();
+}
+
+/// Where the logs end with empty hands, the threads queued, blocked and ended are together exactly those made.
+pub fn totals_are_those_made()
+    ensures { TotalsAreThoseMade }
+{
+    joined_runs_are_histories();
+}
+
+/// Logs by the worker rule, and journals with them in one order, are a whole run: at once a history of the machine,
+/// of each place and of each actor. That each program has its end line is asked for.
+pub fn worked_runs_are_whole()
+    ensures { WorkedRunsAreWhole }
 {
     steps_keep_sound();
     steps_keep_counts();
