@@ -71,7 +71,7 @@ flat_is setup c s l e happens = ap (λ (o : Option Event). option_map_or (λ (v 
 yard_is : (setup : SetupParts) (y : RunYard) (l : Line) (e : YardEvent) → yard_event setup y l ≡ Some e → yard_after setup y l ≡ e.yard
 yard_is setup y l e happens = ap (λ (o : Option YardEvent). option_map_or (λ (v : YardEvent). v.yard) o y) happens
 
-hand_is : (setup : SetupParts) (h : Hand) (l : Line) (e : HandEvent) → hand_event setup h l ≡ Some e → hand_after setup h l ≡ e.hand
+pub hand_is : (setup : SetupParts) (h : Hand) (l : Line) (e : HandEvent) → hand_event setup h l ≡ Some e → hand_after setup h l ≡ e.hand
 hand_is setup h l e happens = ap (λ (o : Option HandEvent). option_map_or (λ (v : HandEvent). v.hand) o h) happens
 
 -- a line at a cluster

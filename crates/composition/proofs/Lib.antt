@@ -1,5 +1,7 @@
 pub mod Ahead
+pub mod Charges
 pub mod ClusterActs
+pub mod Finished
 pub mod HandActs
 pub mod Joined
 pub mod Outcomes
