@@ -68,7 +68,7 @@ keeps laws setup g next l kept fits r =
 flat_is : (setup : SetupParts) (c : ℕ) (s : Flat) (l : Line) (e : Event) → cluster_event setup c s l ≡ Some e → flat_after setup c s l ≡ e.flat
 flat_is setup c s l e happens = ap (λ (o : Option Event). option_map_or (λ (v : Event). v.flat) o s) happens
 
-yard_is : (setup : SetupParts) (y : RunYard) (l : Line) (e : YardEvent) → yard_event setup y l ≡ Some e → yard_after setup y l ≡ e.yard
+pub yard_is : (setup : SetupParts) (y : RunYard) (l : Line) (e : YardEvent) → yard_event setup y l ≡ Some e → yard_after setup y l ≡ e.yard
 yard_is setup y l e happens = ap (λ (o : Option YardEvent). option_map_or (λ (v : YardEvent). v.yard) o y) happens
 
 pub hand_is : (setup : SetupParts) (h : Hand) (l : Line) (e : HandEvent) → hand_event setup h l ≡ Some e → hand_after setup h l ≡ e.hand

@@ -1,9 +1,8 @@
 -- In a log by the worker rule every thread that ends has done the work of its program.
-use Rattle.std.proofs.Common.{◌≡◌, ◌⊎◌, ℕ, zero, suc, ◌≤◌, ◌<◌, min, nat_lt, Bool, true, false, List, [], ◌∷◌, ◌++◌, map, Option, Some, None, option_and_then, refl, sym, ap, ◌∙◌, subst, inl, inr}
+use Rattle.std.proofs.Common.{◌≡◌, ℕ, zero, suc, ◌≤◌, nat_lt, Bool, true, false, List, [], ◌∷◌, ◌++◌, map, Option, Some, None, option_and_then, refl, sym, ap, ◌∙◌, subst, inl, inr}
 use Rattle.std.specs.Bool.{MatchBool}
 use Rattle.std.specs.Option.{option_map}
-use Rattle.std.proofs.lemmas.Bool.{false≢true}
-use Rattle.std.proofs.lemmas.Option.{none-some, same_Some}
+use Rattle.std.proofs.lemmas.Option.{same_Some}
 use Rattle.sched_base.specs.Facts.{charged}
 use Rattle.sched_base.specs.declared.Act.{Act}
 use Rattle.sched_base.specs.declared.Act.TheVariants as acts
@@ -17,10 +16,10 @@ use Rattle.flat_policy.specs.Policy.Setup.{SetupParts, cluster_times, home_of, r
 use Rattle.flat_policy.specs.Runs.Hands.{Allows, HandEvent, Own, OwnFrom, charging_line, giving_line, hand_after, hand_after_all, hand_event, hand_event_by, taking_line}
 use Rattle.flat_policy.specs.Runs.Histories.{act_of, actor_of, moment_of}
 use Rattle.flat_policy.specs.Runs.Interleaving.{EachLine}
-use Rattle.flat_policy.specs.Runs.Worker.{AfterCharge, AfterNone, ChargesAt, ChargesOr, ChargesStage, ChargesThread, EndsWithout, IsIdleEnd, IsWorked, OffersInTurn, Opening, OpeningOf, Opens, Placing, PlacesThread, PowerAt, Program, Rests, RunParts, SelectsAfterAsking, SelectsAndGoesOn, Stage, Turn, TurnSteps, TurnWith, Turns, TurnsOn, WakesAndPlaces, charge_of, ends_off, last_target, neighbours, power_act, power_for, program_of, stage_at, stages}
+use Rattle.flat_policy.specs.Runs.Worker.{AfterCharge, AfterNone, ChargesAt, ChargesOr, ChargesStage, ChargesThread, EndsWithout, IsIdleEnd, IsWorked, OffersInTurn, Opening, OpeningOf, Opens, Placing, PlacesThread, PowerAt, Program, Rests, RunParts, SelectsAfterAsking, SelectsAndGoesOn, Stage, TurnSteps, TurnWith, Turns, TurnsOn, WakesAndPlaces, charge_of, ends_off, last_target, neighbours, power_act, power_for, program_of, stage_at, stages}
 use Rattle.composition.proofs.Ahead.{hand_is}
 use Rattle.composition.proofs.Charges.{work_done}
-use Rattle.composition.proofs.Outcomes.{given_by, taken_by}
+use Rattle.composition.proofs.Outcomes.{taken_by}
 
 -- a line's thread has done the work of its program
 pub record IsDone (run : RunParts) (l : Line) : Type 0 where
@@ -63,7 +62,7 @@ placing_done : (run : RunParts) (t : Facts) (ls : List Line) → Placing run.set
 placing_done run t ls p =
     subst (AllDone run) (sym p.whole)
     (each_append (EndsDone run) p.looks (p.aimed ∷ p.enters ∷ []) (looks_done run p.looks (needed run.setup t) p.each_look)
-      (other_act run p.aimed acts.Aim p.aim_line.0 (λ e. cc), (other_act run p.enters (acts.Enter p.cluster false) p.enter_line (λ e. cc), tt)))
+    (other_act run p.aimed acts.Aim p.aim_line.0 (λ e. cc), (other_act run p.enters (acts.Enter p.cluster false) p.enter_line (λ e. cc), tt)))
 
 places_done : (run : RunParts) (ls : List Line) (o : Option Facts) → PlacesThread run.setup ls o → AllDone run ls
 places_done run ls None h = absurd h
@@ -121,11 +120,12 @@ stage_done run a h t clock p s [] slow own held named at charge = absurd charge
 stage_done run a h t clock p s (l ∷ ls) slow own held named at charge =
     let us : ℕ = charge_of run.setup (home_of run.setup a) t s in
     let u : Facts = charged us (rate_of run.setup (home_of run.setup a)) t in
-    let c = charges run.setup a h l t us own.0 charge.0 held in
-    (other_act run l (acts.Ran us) charge.0 (λ e. cc),
-    match_done run a (hand_after run.setup h l) u p s.sleep ls (nat_lt u.work s.target) own.1 c.hand named
-    (work_done p s t (rate_of run.setup (home_of run.setup a)) (times_for (cluster_times run.setup (home_of run.setup a)) t.bucket).quantum slow at)
-    (subst (AfterCharge run.setup s ls) c.line charge.2))
+    let c = charges run.setup a h l t us own.0 charge.0 held in (
+      other_act run l (acts.Ran us) charge.0 (λ e. cc),
+      match_done run a (hand_after run.setup h l) u p s.sleep ls (nat_lt u.work s.target) own.1 c.hand named
+          (work_done p s t (rate_of run.setup (home_of run.setup a)) (times_for (cluster_times run.setup (home_of run.setup a)) t.bucket).quantum slow at)
+          (subst (AfterCharge run.setup s ls) c.line charge.2),
+    )
 
 stage_by : (run : RunParts) (a : ℕ) (h : Hand) (t : Facts) (clock : ℕ) (p : Program) (ls : List Line) → rate_of run.setup (home_of run.setup a) ≤ 1000 → OwnFrom run.setup a h ls → h.thread ≡ Some t → program_of run.programs t.name ≡ Some p
     → (o : Option Stage) → stage_at p t.work ≡ o → ChargesAt run.setup (home_of run.setup a) t clock o ls → AllDone run ls
@@ -159,11 +159,12 @@ without_done run ls h = elim h [ inl w ↦ wakes_done run ls w | inr i ↦ idle_
 offers_done : (run : RunParts) (a : ℕ) (h : Hand) (js : List ℕ) (ls : List Line) → rate_of run.setup (home_of run.setup a) ≤ 1000 → OwnFrom run.setup a h ls → OffersInTurn run (home_of run.setup a) js ls → AllDone run ls
 offers_done run a h [] ls slow own offers = without_done run ls offers
 offers_done run a h (j ∷ js) [] slow own offers = absurd offers
-offers_done run a h (j ∷ js) (l ∷ ls) slow own offers =
-    (other_act run l (acts.Offer j) offers.0 (λ e. cc),
-    or_done run a h l ls (OffersInTurn run (home_of run.setup a) js ls) slow own.1
-    (λ rest. offers_done run a (hand_after run.setup h l) js ls slow own.1 rest)
-    l.entry.thread (λ t is. takes run.setup a h l t own.0 (ap (hand_event_by run.setup h l) offers.0) is) offers.1)
+offers_done run a h (j ∷ js) (l ∷ ls) slow own offers = (
+  other_act run l (acts.Offer j) offers.0 (λ e. cc),
+  or_done run a h l ls (OffersInTurn run (home_of run.setup a) js ls) slow own.1
+      (λ rest. offers_done run a (hand_after run.setup h l) js ls slow own.1 rest)
+      l.entry.thread (λ t is. takes run.setup a h l t own.0 (ap (hand_event_by run.setup h l) offers.0) is) offers.1,
+)
 
 none_done : (run : RunParts) (a : ℕ) (h : Hand) (ls : List Line) (answer : Answer) → rate_of run.setup (home_of run.setup a) ≤ 1000 → OwnFrom run.setup a h ls → AfterNone run (home_of run.setup a) ls answer → AllDone run ls
 none_done run a h ls answers.Empty slow own after = offers_done run a h (neighbours run.setup (home_of run.setup a)) ls slow own after
@@ -171,11 +172,12 @@ none_done run a h ls answers.Off slow own after = without_done run ls after
 none_done run a h ls _ slow own after = absurd after
 
 selects_done : (run : RunParts) (a : ℕ) (h : Hand) (l : Line) (ls : List Line) → rate_of run.setup (home_of run.setup a) ≤ 1000 → OwnFrom run.setup a h (l ∷ ls) → SelectsAndGoesOn run (home_of run.setup a) l ls → AllDone run (l ∷ ls)
-selects_done run a h l ls slow own selects =
-    (other_act run l acts.Select selects.0 (λ e. cc),
-    or_done run a h l ls (AfterNone run (home_of run.setup a) ls l.entry.answer) slow own.1
-    (λ rest. none_done run a (hand_after run.setup h l) ls l.entry.answer slow own.1 rest)
-    l.entry.thread (λ t is. takes run.setup a h l t own.0 (ap (hand_event_by run.setup h l) selects.0) is) selects.1)
+selects_done run a h l ls slow own selects = (
+  other_act run l acts.Select selects.0 (λ e. cc),
+  or_done run a h l ls (AfterNone run (home_of run.setup a) ls l.entry.answer) slow own.1
+      (λ rest. none_done run a (hand_after run.setup h l) ls l.entry.answer slow own.1 rest)
+      l.entry.thread (λ t is. takes run.setup a h l t own.0 (ap (hand_event_by run.setup h l) selects.0) is) selects.1,
+)
 
 asking_done : (run : RunParts) (a : ℕ) (h : Hand) (ls : List Line) → rate_of run.setup (home_of run.setup a) ≤ 1000 → OwnFrom run.setup a h ls → SelectsAfterAsking run (home_of run.setup a) ls → AllDone run ls
 asking_done run a h [] slow own asks = absurd asks
@@ -202,7 +204,7 @@ turns_done run a h k (suc count) ls slow own turns =
     let parts = own_append run.setup a h turns.0 turns.1 (subst (OwnFrom run.setup a h) turns.2 own) in
     subst (AllDone run) (sym turns.2)
     (each_append (EndsDone run) turns.0 turns.1 (turn_with_done run a h (power_for run a k) turns.0 slow parts.0 turns.3)
-      (turns_done run a (hand_after_all run.setup h turns.0) (suc k) count turns.1 slow parts.1 turns.4))
+    (turns_done run a (hand_after_all run.setup h turns.0) (suc k) count turns.1 slow parts.1 turns.4))
 
 opens_done : (run : RunParts) (p : Program) (ls : List Line) → Opens run p ls → AllDone run ls
 opens_done run p [] opens = absurd opens
@@ -230,8 +232,8 @@ worked_done run a ls slow own w =
     let inner = own_append run.setup a h w.opening w.numbered middle.0 in
     subst (AllDone run) (sym w.whole)
     (each_append (EndsDone run) ((w.opening ++ w.numbered) ++ w.on) w.rounds
-      (each_append (EndsDone run) (w.opening ++ w.numbered) w.on
-        (each_append (EndsDone run) w.opening w.numbered (opening_of_done run a w.opening w.opens)
-          (turns_done run a (hand_after_all run.setup h w.opening) 0 run.turns w.numbered slow inner.1 w.turns))
-        (turns_on_done run a (ends_off (w.opening ++ w.numbered)) w.on w.turns_on))
-      (turns_done run a (hand_after_all run.setup h ((w.opening ++ w.numbered) ++ w.on)) run.turns w.round_count w.rounds slow outer.1 w.in_rounds))
+    (each_append (EndsDone run) (w.opening ++ w.numbered) w.on
+    (each_append (EndsDone run) w.opening w.numbered (opening_of_done run a w.opening w.opens)
+    (turns_done run a (hand_after_all run.setup h w.opening) 0 run.turns w.numbered slow inner.1 w.turns))
+    (turns_on_done run a (ends_off (w.opening ++ w.numbered)) w.on w.turns_on))
+    (turns_done run a (hand_after_all run.setup h ((w.opening ++ w.numbered) ++ w.on)) run.turns w.round_count w.rounds slow outer.1 w.in_rounds))

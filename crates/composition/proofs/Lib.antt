@@ -4,7 +4,9 @@ pub mod ClusterActs
 pub mod Finished
 pub mod HandActs
 pub mod Joined
+pub mod Names
 pub mod Outcomes
+pub mod Programs
 pub mod Replies
 pub mod Restricted
 pub mod Sleepers

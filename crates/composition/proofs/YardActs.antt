@@ -48,7 +48,7 @@ filled : (setup : SetupParts) (h : Hand) (l : Line) (e : YardEvent) (f : HandEve
 filled setup h l e f t tells is hand = ap (λ (o : Option Facts). taking_hand setup h o (moment_of l)) (is ∙ sym tells.thread) ∙ hand
 
 -- the yard with a name more among those made
-abbrev with_made : RunYard → ℕ → Facts → YardEvent
+abbrev pub with_made : RunYard → ℕ → Facts → YardEvent
 with_made y now t = record { answer = answers.Yes; thread = Some t; yard = record y { made = y.made ++ t.name ∷ []; last = now } }
 
 make_comes : (setup : SetupParts) (fs : List Flat) (hs : List Hand) (y : RunYard) (h : Hand) (l : Line) (e : YardEvent) (f : HandEvent) → Carries l e.answer e.thread → (name group : ℕ) (bucket : Bucket) (base : ℕ) (bound : Option ℕ)
@@ -91,7 +91,7 @@ sleep_comes setup fs hs y h l e f tells moves happens allowed =
     }
 
 -- the yard without the thread that is woken first
-abbrev with_woken : RunYard → ℕ → DueSleeper → YardEvent
+abbrev pub with_woken : RunYard → ℕ → DueSleeper → YardEvent
 with_woken y now w = record { answer = answers.Yes; thread = Some (rested (now - w.since) w.facts); yard = record y { blocked = others_blocked y; last = now } }
 
 wake_comes : (setup : SetupParts) (fs : List Flat) (hs : List Hand) (y : RunYard) (h : Hand) (l : Line) (e : YardEvent) (f : HandEvent) → ((n : ℕ) → count_by (has_name n) (map without_due y.blocked) ≤ 1) → Carries l e.answer e.thread → (name : ℕ)
@@ -135,7 +135,7 @@ end_comes setup fs hs y h l e f tells moves happens allowed =
     }
 
 -- the yard as it was, with the number of the blocked threads as the answer
-abbrev with_count : RunYard → ℕ → ℕ → YardEvent
+abbrev pub with_count : RunYard → ℕ → ℕ → YardEvent
 with_count y now n = record { answer = answers.Left n; thread = None; yard = record y { last = now } }
 
 blocked_comes : (setup : SetupParts) (fs : List Flat) (hs : List Hand) (y : RunYard) (h : Hand) (l : Line) (e : YardEvent) (f : HandEvent) → Carries l e.answer e.thread

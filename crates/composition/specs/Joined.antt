@@ -1,11 +1,12 @@
 -- Journals of the clusters and the yard and logs of the actors, each a history by itself, and the machine that they leave.
-use Rattle.std.specs.Prelude.{List, None, [], length, map, slice_index_or, ℕ, ◌<◌, ◌≡◌}
+use Rattle.std.specs.Prelude.{Contains, List, None, [], length, map, slice_index_or, ℕ, ◌<◌, ◌≡◌}
 use Rattle.flat_policy.specs.declared.journal.Line.{Line}
 use Rattle.flat_policy.specs.Policy.Machine.{Hand, MachineState, Sleeper, Yard, empty_hand}
 use Rattle.flat_policy.specs.Policy.Queue.{Flat, empty_flat}
 use Rattle.flat_policy.specs.Policy.Setup.{SetupParts, actor_count, cluster_count}
 use Rattle.flat_policy.specs.Runs.Hands.{Own, hand_after_all}
 use Rattle.flat_policy.specs.Runs.Histories.{CRun, DueSleeper, RunYard, YRun}
+use Rattle.flat_policy.specs.Runs.Worker.{Program}
 
 -- a blocked thread without its due moment
 abbrev pub without_due : DueSleeper → Sleeper
@@ -35,3 +36,13 @@ pub record RunApart (setup : SetupParts) (clusters : List (List Line)) (yard : L
 -- the logs end with empty hands
 abbrev pub EndEmptyHanded : SetupParts → List (List Line) → Type 0
 EndEmptyHanded setup logs = (a : ℕ) → a < actor_count setup → (hand_after_all setup (empty_hand setup 0) (slice_index_or logs a [])).thread ≡ None
+
+-- nothing is left over: no queue has an entry, no hand a thread, and no thread is blocked
+pub record NothingLeft (setup : SetupParts) (logs : List (List Line)) (flats : List Flat) (end : RunYard) : Type 0 where
+  pub queues : (c : ℕ) → c < cluster_count setup → (slice_index_or flats c (empty_flat 0)).entries ≡ []
+  pub hands : EndEmptyHanded setup logs
+  pub blocked : end.blocked ≡ []
+
+-- there is no more than one program of each name
+abbrev pub HaveOwnNames : List Program → Type 0
+HaveOwnNames ps = (p q : Program) → Contains ps p → Contains ps q → p.name ≡ q.name → p ≡ q

@@ -2,7 +2,7 @@
 //! order. Each law is the contract of a function that does nothing but name the laws that it rests on.
 #![tactic(auto)]
 
-ghost use Rattle.composition.specs.Laws.{JoinedRunsAreHistories, TotalsAreThoseMade, WorkedRunsAreWhole};
+ghost use Rattle.composition.specs.Laws.{FinishedRunsAreWhole, JoinedRunsAreHistories, TotalsAreThoseMade};
 
 use flat_policy::laws::{empty_is_sound, runs_keep_counts, steps_keep_counts, steps_keep_sound};
 
@@ -25,10 +25,10 @@ pub fn totals_are_those_made()
     joined_runs_are_histories();
 }
 
-/// Logs by the worker rule, and journals with them in one order, are a whole run: at once a history of the machine,
-/// of each place and of each actor. That each program has its end line is asked for.
-pub fn worked_runs_are_whole()
-    ensures { WorkedRunsAreWhole }
+/// Logs by the worker rule and journals, in one order and with nothing left over, are a whole run: at once a history
+/// of the machine, of each place and of each actor, among whose lines each program has its end line.
+pub fn finished_runs_are_whole()
+    ensures { FinishedRunsAreWhole }
 {
     steps_keep_sound();
     steps_keep_counts();
