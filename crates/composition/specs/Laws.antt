@@ -6,8 +6,8 @@ use Rattle.flat_policy.specs.Policy.Machine.{GRun}
 use Rattle.flat_policy.specs.Policy.Queue.{Flat}
 use Rattle.flat_policy.specs.Policy.Setup.{SetupParts, actor_count}
 use Rattle.flat_policy.specs.Runs.Histories.{RunYard, entries_of}
-use Rattle.flat_policy.specs.Runs.Interleaving.{Interleaves}
-use Rattle.flat_policy.specs.Runs.WholeRuns.{IsWholeRun}
+use Rattle.flat_policy.specs.Runs.Interleaving.{EachLine, Interleaves, spot_by_journals}
+use Rattle.flat_policy.specs.Runs.WholeRuns.{IsWholeRun, spot_by_setup}
 use Rattle.flat_policy.specs.Runs.Worker.{IsWorked, RunParts}
 use Rattle.composition.specs.Joined.{EndEmptyHanded, HaveOwnNames, NothingLeft, RunApart, hands_left, machine_of}
 
@@ -16,6 +16,12 @@ abbrev pub JoinedRunsAreHistories : Type 0
 JoinedRunsAreHistories =
     (setup : SetupParts) (clusters : List (List Line)) (yard : List Line) (logs : List (List Line)) (flats : List Flat) (end : RunYard) (history : List Line)
     → RunApart setup clusters yard logs flats end → Interleaves clusters yard logs history → GRun setup (entries_of history) (machine_of flats (hands_left setup logs) end)
+
+-- and each of its lines has the spot by the journals that it has by the setup
+abbrev pub SpotsAreTheSetups : Type 0
+SpotsAreTheSetups =
+    (setup : SetupParts) (clusters : List (List Line)) (yard : List Line) (logs : List (List Line)) (flats : List Flat) (end : RunYard) (history : List Line)
+    → RunApart setup clusters yard logs flats end → Interleaves clusters yard logs history → EachLine (λ (l : Line). spot_by_journals clusters l ≡ spot_by_setup setup l) history
 
 -- where the logs end with empty hands, the threads queued, blocked and ended are together those made
 abbrev pub TotalsAreThoseMade : Type 0

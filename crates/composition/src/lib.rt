@@ -2,7 +2,7 @@
 //! order. Each law is the contract of a function that does nothing but name the laws that it rests on.
 #![tactic(auto)]
 
-ghost use Rattle.composition.specs.Laws.{FinishedRunsAreWhole, JoinedRunsAreHistories, TotalsAreThoseMade};
+ghost use Rattle.composition.specs.Laws.{FinishedRunsAreWhole, JoinedRunsAreHistories, SpotsAreTheSetups, TotalsAreThoseMade};
 
 use flat_policy::laws::{empty_is_sound, runs_keep_counts, steps_keep_counts, steps_keep_sound};
 
@@ -11,6 +11,16 @@ use flat_policy::laws::{empty_is_sound, runs_keep_counts, steps_keep_counts, ste
 /// each of them leaves its place in.
 pub fn joined_runs_are_histories()
     ensures { JoinedRunsAreHistories }
+{
+    steps_keep_sound();
+    steps_keep_counts();
+    empty_is_sound();
+    runs_keep_counts();
+}
+
+/// Each line of such an order has the place by the journals that it has by the setup.
+pub fn spots_are_the_setups()
+    ensures { SpotsAreTheSetups }
 {
     steps_keep_sound();
     steps_keep_counts();
@@ -30,8 +40,7 @@ pub fn totals_are_those_made()
 pub fn finished_runs_are_whole()
     ensures { FinishedRunsAreWhole }
 {
-    steps_keep_sound();
-    steps_keep_counts();
-    empty_is_sound();
+    joined_runs_are_histories();
+    spots_are_the_setups();
     runs_keep_counts();
 }
