@@ -17,7 +17,7 @@ JoinedRunsAreHistories =
     (setup : SetupParts) (clusters : List (List Line)) (yard : List Line) (logs : List (List Line)) (flats : List Flat) (end : RunYard) (history : List Line)
     → RunApart setup clusters yard logs flats end → Interleaves clusters yard logs history → GRun setup (entries_of history) (machine_of flats (hands_left setup logs) end)
 
--- and each of its lines has the spot by the journals that it has by the setup
+-- each line of such an interleaving has the spot by the journals that it has by the setup
 abbrev pub SpotsAreTheSetups : Type 0
 SpotsAreTheSetups =
     (setup : SetupParts) (clusters : List (List Line)) (yard : List Line) (logs : List (List Line)) (flats : List Flat) (end : RunYard) (history : List Line)
