@@ -1,0 +1,15 @@
+pub mod Ahead
+pub mod Charges
+pub mod ClusterActs
+pub mod Finished
+pub mod HandActs
+pub mod Joined
+pub mod Names
+pub mod Outcomes
+pub mod Programs
+pub mod Replies
+pub mod Restricted
+pub mod Sleepers
+pub mod Totals
+pub mod WholeRuns
+pub mod YardActs
