@@ -53,3 +53,6 @@ impl From<AllocError> for StitchError {
         StitchError::Memory
     }
 }
+
+#[cfg(test)]
+mod tests;
