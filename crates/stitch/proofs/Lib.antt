@@ -1,0 +1,9 @@
+pub mod Same
+pub mod Parts
+pub mod Moves
+pub mod Takings
+pub mod HomeSteps
+pub mod Counts
+pub mod Fewer
+pub mod Stopping
+pub mod Keeping

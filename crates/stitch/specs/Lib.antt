@@ -1,0 +1,4 @@
+pub mod Taking
+pub mod Stops
+pub mod Cursors
+pub mod Left
