@@ -14,6 +14,3 @@ mod units;
 
 pub use flat_policy::cluster::Cluster;
 pub use plain::PlainCluster;
-
-#[cfg(test)]
-mod tests;
