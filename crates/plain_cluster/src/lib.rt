@@ -14,3 +14,6 @@ mod units;
 
 pub use flat_policy::cluster::Cluster;
 pub use plain::PlainCluster;
+
+#[cfg(test)]
+mod tests;
