@@ -4,7 +4,7 @@ use Rattle.std.proofs.lemmas.Bool.{cases_Bool}
 use Rattle.std.proofs.lemmas.Option.{slice_get_read}
 use Rattle.std.proofs.lemmas.Bool.Decides.{nat_tests}
 use Rattle.trace_replay.specs.declared.queue.Queued.{Queued}
-use Rattle.trace_replay.specs.FirstForm.{Above, Rising, pick, without}
+use Rattle.trace_replay.specs.FirstForm.{Above, Rising, first_pick, without}
 use Rattle.trace_replay.specs.Kept.{Below}
 
 -- a list below n goes on with an arrival at n
@@ -73,10 +73,10 @@ remove_is (x ∷ xs) (suc i) d rising within =
 
 -- the entry at the pick's place is the pick, and without it the list is the one with its place removed
 pub record TakesPick (xs : List Queued) (i : ℕ) (x : Queued) : Type 0 where
-  pub picked : pick xs ≡ Some x
+  pub picked : first_pick xs ≡ Some x
   pub rest : remove xs i ≡ without x.arrival xs
 
-pub takes_pick : (xs : List Queued) (i : ℕ) (x : Queued) → Rising xs → i < length xs → x ≡ get_or xs i x → pick xs ≡ slice_get xs i → TakesPick xs i x
+pub takes_pick : (xs : List Queued) (i : ℕ) (x : Queued) → Rising xs → i < length xs → x ≡ get_or xs i x → first_pick xs ≡ slice_get xs i → TakesPick xs i x
 takes_pick xs i x rising within at found = record {
   picked = found ∙ slice_get_read xs (length xs) i x refl within at;
   rest = remove_is xs i x rising within ∙ ap (λ (k : Queued). without k.arrival xs) (sym at);

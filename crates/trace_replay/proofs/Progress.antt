@@ -7,14 +7,14 @@ use Rattle.std.proofs.lemmas.Bool.{eqb-true}
 use Rattle.std.proofs.lemmas.Bool.Decides.{nat_tests}
 use Rattle.sched_base.specs.declared.steps.Answer.{Answer}
 use Rattle.sched_base.specs.declared.steps.Step.{Step}
-use Rattle.trace_replay.specs.FirstGame.{Game, empty, outcome}
+use Rattle.trace_replay.specs.FirstGame.{FirstMachine, empty, outcome}
 use Rattle.trace_replay.specs.Texts.{IsInForm, step_line, output_line}
 use Rattle.trace_replay.specs.Replay.{lines_of, after, timed, written, AreAnswered, IsOutside}
 use Rattle.trace_replay.proofs.Spelling.{one_step}
 use Rattle.trace_replay.proofs.Runs.{after_more, lines_more, form_more, form_last, written_more, is_some_of, shorter}
 
 -- these steps were read from the lines, and led to the machine and to what is written
-pub record Progress (lines rest start out : List ℕ) (machine : Game) (line : ℕ) (steps : List Step) : Type 0 where
+pub record Progress (lines rest start out : List ℕ) (machine : FirstMachine) (line : ℕ) (steps : List Step) : Type 0 where
   pub text : lines ≡ lines_of steps ++ rest
   pub form : AllByRecursion IsInForm steps
   pub machine_is : after empty steps ≡ Some machine
@@ -23,23 +23,23 @@ pub record Progress (lines rest start out : List ℕ) (machine : Game) (line : �
   pub arrivals : machine.next_arrival ≤ length steps
   pub within : length steps + length rest ≤ length lines
 
-pub progress_start : (lines start : List ℕ) (machine : Game) → machine ≡ empty → Progress lines lines start start machine 2 []
+pub progress_start : (lines start : List ℕ) (machine : FirstMachine) → machine ≡ empty → Progress lines lines start start machine 2 []
 progress_start lines start machine is = record {
   text = refl;
   form = tt;
-  machine_is = ap (λ (k : Game). let o : Option Game = Some k in o) (sym is);
+  machine_is = ap (λ (k : FirstMachine). let o : Option FirstMachine = Some k in o) (sym is);
   out_is = sym (append-nil start);
   line_is = refl;
-  arrivals = let none : machine.next_arrival ≡ 0 = ap (λ (k : Game). k.next_arrival) is in omega arith;
+  arrivals = let none : machine.next_arrival ≡ 0 = ap (λ (k : FirstMachine). k.next_arrival) is in omega arith;
   within = omega arith;
 }
 
-pub progress_more : (lines rest start out : List ℕ) (machine : Game) (line : ℕ) (steps : List Step) (s : Step) (more : List ℕ) (answer : Answer) (next : Game) (grown : List ℕ)
+pub progress_more : (lines rest start out : List ℕ) (machine : FirstMachine) (line : ℕ) (steps : List Step) (s : Step) (more : List ℕ) (answer : Answer) (next : FirstMachine) (grown : List ℕ)
     → Progress lines rest start out machine line steps → IsInForm s → rest ≡ step_line s ++ more → outcome machine s ≡ Some (answer, next)
     → next.next_arrival ≤ machine.next_arrival + 1 → grown ≡ out ++ output_line (timed machine s) answer
     → Progress lines more start grown next (line + 1) (steps ++ s ∷ [])
 progress_more lines rest start out machine line steps s more answer next grown p form is done arrivals out_more =
-    let last : after machine (s ∷ []) ≡ Some next = ap (option_and_then (λ (r : Answer × Game). after r.1 [])) done in
+    let last : after machine (s ∷ []) ≡ Some next = ap (option_and_then (λ (r : Answer × FirstMachine). after r.1 [])) done in
     let length_more : length (steps ++ s ∷ []) ≡ length steps + 1 = length-append steps (s ∷ []) in
     record {
       text = p.text ∙ ap (λ (k : List ℕ). lines_of steps ++ k) is ∙ sym (append_assoc (lines_of steps) (step_line s) more) ∙ ap (λ (k : List ℕ). k ++ more) (sym (lines_more steps s));
@@ -54,11 +54,11 @@ progress_more lines rest start out machine line steps s more answer next grown p
 not_empty : (rest : List ℕ) → eqb (length rest) 0 ≡ false → rest ≢ []
 not_empty rest test is = let none : length rest ≡ 0 = ap length is in let no : ⊥ = grind (arith, nat_tests) in no
 
-answered : (steps : List Step) (machine : Game) → AllByRecursion IsInForm steps → after empty steps ≡ Some machine → AreAnswered steps
+answered : (steps : List Step) (machine : FirstMachine) → AllByRecursion IsInForm steps → after empty steps ≡ Some machine → AreAnswered steps
 answered steps machine form is = record { form = form; accepted = is_some_of (after empty steps) machine is }
 
 -- no line of a step stands there
-pub outside_unread : (lines rest start out : List ℕ) (machine : Game) (line : ℕ) (steps : List Step)
+pub outside_unread : (lines rest start out : List ℕ) (machine : FirstMachine) (line : ℕ) (steps : List Step)
     → Progress lines rest start out machine line steps → eqb (length rest) 0 ≡ false
     → ((s : Step) (more : List ℕ) → IsInForm s → rest ≢ step_line s ++ more) → IsOutside lines line
 outside_unread lines rest start out machine line steps p test unread = (
@@ -78,9 +78,9 @@ none_is_none None e h = cc
 none_is_none (Some x) e h = cc
 
 -- the line of a step stands there that the machine refuses
-pub outside_refused : (lines rest start out : List ℕ) (machine : Game) (line : ℕ) (steps : List Step) (s : Step) (more : List ℕ)
+pub outside_refused : (lines rest start out : List ℕ) (machine : FirstMachine) (line : ℕ) (steps : List Step) (s : Step) (more : List ℕ)
     → Progress lines rest start out machine line steps → eqb (length rest) 0 ≡ false
-    → IsInForm s → rest ≡ step_line s ++ more → ◌≡◌ {A = Option (Answer × Game)} (outcome machine s) None → IsOutside lines line
+    → IsInForm s → rest ≡ step_line s ++ more → ◌≡◌ {A = Option (Answer × FirstMachine)} (outcome machine s) None → IsOutside lines line
 outside_refused lines rest start out machine line steps s more p test form is refused = (
   steps,
   rest,
@@ -89,7 +89,7 @@ outside_refused lines rest start out machine line steps s more p test form is re
     answered = answered steps machine p.form p.machine_is;
     stuck = λ t others next reads.
         let same : t ≡ s = (one_step t s others more (form_last steps t next.form) form (sym reads ∙ is)).0 in
-        let last : ◌≡◌ {A = Option Game} (after empty (steps ++ t ∷ [])) None = after_more empty machine steps t p.machine_is ∙ ap (λ (k : Step). after machine (k ∷ [])) same ∙ ap (option_and_then (λ (r : Answer × Game). after r.1 [])) refused in
+        let last : ◌≡◌ {A = Option FirstMachine} (after empty (steps ++ t ∷ [])) None = after_more empty machine steps t p.machine_is ∙ ap (λ (k : Step). after machine (k ∷ [])) same ∙ ap (option_and_then (λ (r : Answer × FirstMachine). after r.1 [])) refused in
         none_is_none (after empty (steps ++ t ∷ [])) last next.accepted;
   },
   not_empty rest test,
@@ -102,7 +102,7 @@ pub record AllRead (lines start out : List ℕ) (steps : List Step) : Type 0 whe
   pub answered : AreAnswered steps
   pub out_is : out ≡ start ++ written empty steps
 
-pub all_read : (lines rest start out : List ℕ) (machine : Game) (line : ℕ) (steps : List Step)
+pub all_read : (lines rest start out : List ℕ) (machine : FirstMachine) (line : ℕ) (steps : List Step)
     → Progress lines rest start out machine line steps → eqb (length rest) 0 ≡ true → AllRead lines start out steps
 all_read lines rest start out machine line steps p test =
     let none : rest ≡ [] = nil_from_length rest (eqb-true _ _ test) in

@@ -5,7 +5,7 @@ use Rattle.std.specs.List.{AllByRecursion}
 use Rattle.std.specs.Option.{option_and_then, option_map_or}
 use Rattle.sched_base.specs.declared.steps.Answer.{Answer}
 use Rattle.sched_base.specs.declared.steps.Step.{Step}
-use Rattle.trace_replay.specs.FirstGame.{Game, outcome}
+use Rattle.trace_replay.specs.FirstGame.{FirstMachine, outcome}
 use Rattle.trace_replay.specs.Texts.{IsInForm, step_text, step_line, output_line}
 use Rattle.trace_replay.specs.Replay.{lines_of, after, timed, written}
 
@@ -24,11 +24,11 @@ is_some_of (Some y) x e = refl
 
 -- ---- one more step at the end
 
-pub after_more : (g h : Game) (ss : List Step) (s : Step) → after g ss ≡ Some h → after g (ss ++ s ∷ []) ≡ after h (s ∷ [])
-after_more g h [] s e = let same : g ≡ h = cc in ap (λ (k : Game). after k (s ∷ [])) same
+pub after_more : (g h : FirstMachine) (ss : List Step) (s : Step) → after g ss ≡ Some h → after g (ss ++ s ∷ []) ≡ after h (s ∷ [])
+after_more g h [] s e = let same : g ≡ h = cc in ap (λ (k : FirstMachine). after k (s ∷ [])) same
 after_more g h (x ∷ ss) s e =
-    let first = and_then_some (λ (r : Answer × Game). after r.1 ss) (outcome g x) h e in
-    ap (option_and_then (λ (r : Answer × Game). after r.1 (ss ++ s ∷ []))) first.1 ∙ after_more first.0.1 h ss s first.2
+    let first = and_then_some (λ (r : Answer × FirstMachine). after r.1 ss) (outcome g x) h e in
+    ap (option_and_then (λ (r : Answer × FirstMachine). after r.1 (ss ++ s ∷ []))) first.1 ∙ after_more first.0.1 h ss s first.2
 
 pub lines_more : (ss : List Step) (s : Step) → lines_of (ss ++ s ∷ []) ≡ lines_of ss ++ step_line s
 lines_more [] s = append-nil (step_line s)
@@ -43,17 +43,17 @@ pub form_last : (ss : List Step) (s : Step) → AllByRecursion IsInForm (ss ++ s
 form_last [] s form = form.0
 form_last (x ∷ ss) s form = form_last ss s form.1
 
-pub written_more : (g h : Game) (ss : List Step) (s : Step) (r : Answer × Game) → after g ss ≡ Some h → outcome h s ≡ Some r → written g (ss ++ s ∷ []) ≡ written g ss ++ output_line (timed h s) r.0
+pub written_more : (g h : FirstMachine) (ss : List Step) (s : Step) (r : Answer × FirstMachine) → after g ss ≡ Some h → outcome h s ≡ Some r → written g (ss ++ s ∷ []) ≡ written g ss ++ output_line (timed h s) r.0
 written_more g h [] s r e done =
     let same : g ≡ h = cc in
-    ap (λ (k : Game). written k (s ∷ [])) same ∙ ap (λ (o : Option (Answer × Game)). option_map_or (λ (q : Answer × Game). output_line (timed h s) q.0 ++ []) o []) done ∙ append-nil (output_line (timed h s) r.0)
+    ap (λ (k : FirstMachine). written k (s ∷ [])) same ∙ ap (λ (o : Option (Answer × FirstMachine)). option_map_or (λ (q : Answer × FirstMachine). output_line (timed h s) q.0 ++ []) o []) done ∙ append-nil (output_line (timed h s) r.0)
 written_more g h (x ∷ ss) s r e done =
-    let first = and_then_some (λ (q : Answer × Game). after q.1 ss) (outcome g x) h e in
+    let first = and_then_some (λ (q : Answer × FirstMachine). after q.1 ss) (outcome g x) h e in
     let head : List ℕ = output_line (timed g x) first.0.0 in
     let rest : written first.0.1 (ss ++ s ∷ []) ≡ written first.0.1 ss ++ output_line (timed h s) r.0 = written_more first.0.1 h ss s r first.2 done in
     let whole : written g (x ∷ ss) ≡ output_line (timed g x) first.0.0 ++ written first.0.1 ss =
-    ap (λ (o : Option (Answer × Game)). option_map_or (λ (q : Answer × Game). output_line (timed g x) q.0 ++ written q.1 ss) o []) first.1 in
-    ap (λ (o : Option (Answer × Game)). option_map_or (λ (q : Answer × Game). output_line (timed g x) q.0 ++ written q.1 (ss ++ s ∷ [])) o []) first.1
+    ap (λ (o : Option (Answer × FirstMachine)). option_map_or (λ (q : Answer × FirstMachine). output_line (timed g x) q.0 ++ written q.1 ss) o []) first.1 in
+    ap (λ (o : Option (Answer × FirstMachine)). option_map_or (λ (q : Answer × FirstMachine). output_line (timed g x) q.0 ++ written q.1 (ss ++ s ∷ [])) o []) first.1
     ∙ ap (λ (k : List ℕ). output_line (timed g x) first.0.0 ++ k) rest
     ∙ sym (append_assoc (output_line (timed g x) first.0.0) (written first.0.1 ss) (output_line (timed h s) r.0))
     ∙ ap (λ (k : List ℕ). k ++ output_line (timed h s) r.0) (sym whole)

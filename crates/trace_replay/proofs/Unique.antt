@@ -5,56 +5,56 @@ use Rattle.std.specs.Option.{option_and_then}
 use Rattle.std.proofs.lemmas.List.{append-nil, append_cancel_left}
 use Rattle.sched_base.specs.declared.steps.Answer.{Answer}
 use Rattle.sched_base.specs.declared.steps.Step.{Step}
-use Rattle.trace_replay.specs.FirstGame.{Game, empty, outcome}
+use Rattle.trace_replay.specs.FirstGame.{FirstMachine, empty, outcome}
 use Rattle.trace_replay.specs.Texts.{IsInForm, step_line}
 use Rattle.trace_replay.specs.Replay.{setup_line, lines_of, after, AreAnswered, IsInput, StopsAfter, IsOutside, IsFirstOutside}
 use Rattle.trace_replay.proofs.Spelling.{one_step}
 use Rattle.trace_replay.proofs.Runs.{and_then_some, some_of, is_some_of, after_more, form_more, long_line}
 
 -- from a state these steps are the lines, up to a rest
-record Reads (start end : Game) (lines rest : List ℕ) (steps : List Step) : Type 0 where
+record Reads (start end : FirstMachine) (lines rest : List ℕ) (steps : List Step) : Type 0 where
   text : lines ≡ lines_of steps ++ rest
   form : AllByRecursion IsInForm steps
   run : after start steps ≡ Some end
 
 -- the rest goes on with the line of no step that is answered next
-abbrev Stuck : Game → List ℕ → Type 0
-Stuck game rest = (s : Step) (more : List ℕ) (r : Answer × Game) → IsInForm s → outcome game s ≡ Some r → rest ≡ step_line s ++ more → ⊥
+abbrev Stuck : FirstMachine → List ℕ → Type 0
+Stuck game rest = (s : Step) (more : List ℕ) (r : Answer × FirstMachine) → IsInForm s → outcome game s ≡ Some r → rest ≡ step_line s ++ more → ⊥
 
 record SameReading (ss ts : List Step) (x y : List ℕ) : Type 0 where
   steps : ss ≡ ts
   rest : x ≡ y
 
-reads_rest : (start end : Game) (lines rest : List ℕ) (s : Step) (steps : List Step) → Reads start end lines rest (s ∷ steps) → lines ≡ step_line s ++ (lines_of steps ++ rest)
+reads_rest : (start end : FirstMachine) (lines rest : List ℕ) (s : Step) (steps : List Step) → Reads start end lines rest (s ∷ steps) → lines ≡ step_line s ++ (lines_of steps ++ rest)
 reads_rest start end lines rest s steps r = r.text ∙ append_assoc (step_line s) (lines_of steps) rest
 
-one_reading : (start e f : Game) (lines x y : List ℕ) (ss ts : List Step) → Reads start e lines x ss → Stuck e x → Reads start f lines y ts → Stuck f y → SameReading ss ts x y
+one_reading : (start e f : FirstMachine) (lines x y : List ℕ) (ss ts : List Step) → Reads start e lines x ss → Stuck e x → Reads start f lines y ts → Stuck f y → SameReading ss ts x y
 one_reading start e f lines x y [] [] p stuck q stuck_too = record { steps = refl; rest = sym p.text ∙ q.text }
 one_reading start e f lines x y [] (t ∷ ts) p stuck q stuck_too =
-    let same : start ≡ e = let run : ◌≡◌ {A = Option Game} (Some start) (Some e) = p.run in cc in
-    let first = and_then_some (λ (r : Answer × Game). after r.1 ts) (outcome start t) f q.run in
-    absurd (stuck t (lines_of ts ++ y) first.0 q.form.0 (ap (λ (k : Game). outcome k t) (sym same) ∙ first.1) (sym p.text ∙ reads_rest start f lines y t ts q))
+    let same : start ≡ e = let run : ◌≡◌ {A = Option FirstMachine} (Some start) (Some e) = p.run in cc in
+    let first = and_then_some (λ (r : Answer × FirstMachine). after r.1 ts) (outcome start t) f q.run in
+    absurd (stuck t (lines_of ts ++ y) first.0 q.form.0 (ap (λ (k : FirstMachine). outcome k t) (sym same) ∙ first.1) (sym p.text ∙ reads_rest start f lines y t ts q))
 one_reading start e f lines x y (s ∷ ss) [] p stuck q stuck_too =
-    let same : start ≡ f = let run : ◌≡◌ {A = Option Game} (Some start) (Some f) = q.run in cc in
-    let first = and_then_some (λ (r : Answer × Game). after r.1 ss) (outcome start s) e p.run in
-    absurd (stuck_too s (lines_of ss ++ x) first.0 p.form.0 (ap (λ (k : Game). outcome k s) (sym same) ∙ first.1) (sym q.text ∙ reads_rest start e lines x s ss p))
+    let same : start ≡ f = let run : ◌≡◌ {A = Option FirstMachine} (Some start) (Some f) = q.run in cc in
+    let first = and_then_some (λ (r : Answer × FirstMachine). after r.1 ss) (outcome start s) e p.run in
+    absurd (stuck_too s (lines_of ss ++ x) first.0 p.form.0 (ap (λ (k : FirstMachine). outcome k s) (sym same) ∙ first.1) (sym q.text ∙ reads_rest start e lines x s ss p))
 one_reading start e f lines x y (s ∷ ss) (t ∷ ts) p stuck q stuck_too =
     let head = one_step s t (lines_of ss ++ x) (lines_of ts ++ y) p.form.0 q.form.0 (sym (reads_rest start e lines x s ss p) ∙ reads_rest start f lines y t ts q) in
-    let first = and_then_some (λ (r : Answer × Game). after r.1 ss) (outcome start s) e p.run in
-    let second = and_then_some (λ (r : Answer × Game). after r.1 ts) (outcome start t) f q.run in
-    let same : first.0 ≡ second.0 = let both : ◌≡◌ {A = Option (Answer × Game)} (Some first.0) (Some second.0) = sym first.1 ∙ ap (outcome start) head.0 ∙ second.1 in cc in
+    let first = and_then_some (λ (r : Answer × FirstMachine). after r.1 ss) (outcome start s) e p.run in
+    let second = and_then_some (λ (r : Answer × FirstMachine). after r.1 ts) (outcome start t) f q.run in
+    let same : first.0 ≡ second.0 = let both : ◌≡◌ {A = Option (Answer × FirstMachine)} (Some first.0) (Some second.0) = sym first.1 ∙ ap (outcome start) head.0 ∙ second.1 in cc in
     let others : SameReading ss ts x y = one_reading first.0.1 e f (lines_of ss ++ x) x y ss ts
     (record { text = refl; form = p.form.1; run = first.2 }) stuck
-    (record { text = head.1; form = q.form.1; run = ap (λ (r : Answer × Game). after r.1 ts) same ∙ second.2 }) stuck_too in
+    (record { text = head.1; form = q.form.1; run = ap (λ (r : Answer × FirstMachine). after r.1 ts) same ∙ second.2 }) stuck_too in
     let tails : ss ≡ ts = others.steps in
     record { steps = let heads : s ≡ t = head.0 in cc; rest = others.rest }
 
-stuck_at_end : (game : Game) → Stuck game []
+stuck_at_end : (game : FirstMachine) → Stuck game []
 stuck_at_end game s more r form done is = absurd (omega (arith, long_line s, ap length is, length-append (step_line s) more))
 
-stuck_inside : (lines rest : List ℕ) (steps : List Step) (end : Game) → after empty steps ≡ Some end → StopsAfter lines steps rest → Stuck end rest
+stuck_inside : (lines rest : List ℕ) (steps : List Step) (end : FirstMachine) → after empty steps ≡ Some end → StopsAfter lines steps rest → Stuck end rest
 stuck_inside lines rest steps end run stops s more r form done is =
-    let last : after end (s ∷ []) ≡ Some r.1 = ap (option_and_then (λ (q : Answer × Game). after q.1 [])) done in
+    let last : after end (s ∷ []) ≡ Some r.1 = ap (option_and_then (λ (q : Answer × FirstMachine). after q.1 [])) done in
     let whole : after empty (steps ++ s ∷ []) ≡ Some r.1 = after_more empty end steps s run ∙ last in
     stops.stuck s more (record { form = form_more steps s stops.answered.form form; accepted = is_some_of (after empty (steps ++ s ∷ [])) r.1 whole }) is
 

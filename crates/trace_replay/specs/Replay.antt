@@ -4,7 +4,7 @@ use Rattle.std.specs.List.{flat_map, AllByRecursion}
 use Rattle.std.specs.Option.{option_and_then, option_map_or}
 use Rattle.std.specs.Io.KnownBytes.{Appends}
 use Rattle.sched_base.specs.declared.steps.Step.{Step}
-use Rattle.trace_replay.specs.FirstGame.{Game, empty, effective, outcome}
+use Rattle.trace_replay.specs.FirstGame.{FirstMachine, empty, effective, outcome}
 use Rattle.ports.specs.Devices.{AppendsPart}
 use Rattle.trace_replay.specs.Texts.{IsInForm, step_line, output_line}
 use Rattle.trace_replay.specs.declared.status.ReplayStatus.{ReplayStatus}
@@ -19,16 +19,16 @@ abbrev pub lines_of : List Step → List ℕ
 lines_of steps = flat_map step_line steps
 
 -- the machine after the steps, or none where it refuses one
-abbrev pub after : Game → List Step → Option Game
+abbrev pub after : FirstMachine → List Step → Option FirstMachine
 after g [] = Some g
 after g (s ∷ ss) = option_and_then (λ r. after r.1 ss) (outcome g s)
 
 -- a step as it is written: with its effective moment
-abbrev pub timed : Game → Step → Step
+abbrev pub timed : FirstMachine → Step → Step
 timed g s = record s { moment = effective g s }
 
 -- what is written for the steps: each as it is timed, with its answer
-abbrev pub written : Game → List Step → List ℕ
+abbrev pub written : FirstMachine → List Step → List ℕ
 written g [] = []
 written g (s ∷ ss) = option_map_or (λ r. output_line (timed g s) r.0 ++ written r.1 ss) (outcome g s) []
 
@@ -63,13 +63,13 @@ IsFirstOutside bytes line =
     ⊎ ((lines : List ℕ) × (bytes ≡ setup_line ++ lines) × IsOutside lines line)
 
 -- what a status says of a whole input, and of what a sink took
-abbrev pub Says : List ℕ → Option (List ℕ) → Option (List ℕ) → ReplayStatus → Type 0
-Says bytes old new Done = (steps : List Step) × IsInput bytes steps × Appends old new (output_of steps)
-Says bytes old new (NotYet line) = IsFirstOutside bytes line × (new ≡ old)
-Says bytes old new WriteFault = (steps : List Step) × IsInput bytes steps × AppendsPart old new (output_of steps)
-Says bytes old new OutOfMemory = new ≡ old
-Says bytes old new Usage = ⊥
-Says bytes old new ReadFault = ⊥
+abbrev pub TellsOf : List ℕ → Option (List ℕ) → Option (List ℕ) → ReplayStatus → Type 0
+TellsOf bytes old new Done = (steps : List Step) × IsInput bytes steps × Appends old new (output_of steps)
+TellsOf bytes old new (NotYet line) = IsFirstOutside bytes line × (new ≡ old)
+TellsOf bytes old new WriteFault = (steps : List Step) × IsInput bytes steps × AppendsPart old new (output_of steps)
+TellsOf bytes old new OutOfMemory = new ≡ old
+TellsOf bytes old new Usage = ⊥
+TellsOf bytes old new ReadFault = ⊥
 
 -- the call answered the whole input: no word, no fault and no want of memory cut it off
 abbrev pub IsUncut : ReplayStatus → Type 0

@@ -1,7 +1,7 @@
 //! The machine: one cluster's queue, and the hand of its one actor.
 
 ghost use Rattle.std.specs.Prelude.{◌≡◌, ◌≤◌, ◌<◌, ◌+◌, ◌^◌, length, Some, None, IsNone, IfSome, IfNone, IfOk, IsSomeAnd, IsTrue, slice_get, option_map, ◌⊎◌};
-ghost use Rattle.trace_replay.specs.FirstForm.{pick, better, precedes};
+ghost use Rattle.trace_replay.specs.FirstForm.{first_pick, better, goes_first};
 ghost use Rattle.trace_replay.specs.FirstGame.{empty, effective, outcome, made_at, entered_at, selected_at, may_make};
 ghost use Rattle.trace_replay.specs.Texts.{IsInForm};
 
@@ -27,10 +27,10 @@ pub struct Machine {
 }
 
 impl Model for Machine {
-    ghost use Rattle.trace_replay.specs.FirstGame.{Game};
+    ghost use Rattle.trace_replay.specs.FirstGame.{FirstMachine};
     ghost use Rattle.trace_replay.specs.Kept.{IsKept};
 
-    ghost Value = { Game };
+    ghost Value = { FirstMachine };
 
     ghost view = { λ m. record {
       queue = m.queue.items;
@@ -47,7 +47,7 @@ impl Model for Machine {
 
 /// Whether `x` goes before `y`.
 fn goes_before(x: &Queued, y: &Queued) -> bool
-    ensures { result ≡ precedes x.now y.now }
+    ensures { result ≡ goes_first x.now y.now }
 {
     x.pri > y.pri || x.pri == y.pri && x.arrival < y.arrival
 }
@@ -69,9 +69,9 @@ fn better_of<'a>(
 
 /// The place of the pick, which no other entry precedes.
 fn picked_at(queue: &[Queued]) -> Option<usize>
-    ensures none { IfNone result (pick queue.now ≡ None) }
+    ensures none { IfNone result (first_pick queue.now ≡ None) }
     ensures within { IfSome result (λ at. at < length queue.now) }
-    ensures found { IfSome result (λ at. pick queue.now ≡ slice_get queue.now at) }
+    ensures found { IfSome result (λ at. first_pick queue.now ≡ slice_get queue.now at) }
 {
     let mut best: Option<(usize, &Queued)> = None;
     for (at, entry) in queue.iter().enumerate() {

@@ -4,7 +4,7 @@ ghost use Rattle.std.specs.Prelude.{◌≡◌, ℕ, ◌≤◌, ◌<◌, ◌↔�
 ghost use Rattle.sched_base.specs.declared.steps.Step.{Step};
 ghost use Rattle.ports.specs.Devices.{Rose};
 ghost use Rattle.trace_replay.specs.FirstGame.{empty};
-ghost use Rattle.trace_replay.specs.Replay.{lines_of, written, AreAnswered, IsInput, output_of, IsOutside, IsFirstOutside, Says, IsUncut, IsSilent, IsJudged, IsWhole, HasTaken};
+ghost use Rattle.trace_replay.specs.Replay.{lines_of, written, AreAnswered, IsInput, output_of, IsOutside, IsFirstOutside, TellsOf, IsUncut, IsSilent, IsJudged, IsWhole, HasTaken};
 ghost use Rattle.ports.specs.Devices.{AppendsPart};
 ghost use Rattle.std.specs.Io.KnownBytes.{Appends, IsAtEnd};
 
@@ -88,7 +88,7 @@ fn replayed(alloc: Global, input: &[u8]) -> Result<String, Stop>
 /// Writes the output of an input.
 fn answer_input<K: Sink>(alloc: Global, input: &[u8], sink: &mut K) -> ReplayStatus
     requires { length input.now ≤ 65536 }
-    ensures says { Says input.now (K.taken sink.old) (K.taken sink.new) result }
+    ensures says { TellsOf input.now (K.taken sink.old) (K.taken sink.new) result }
     ensures cause { result ≡ ReplayStatus.WriteFault → Rose (K.faults sink.old) (K.faults sink.new) }
 {
     match replayed(alloc, input) {
