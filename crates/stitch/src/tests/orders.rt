@@ -37,7 +37,7 @@ impl Numbers {
     }
 
     fn act(&mut self) -> Act {
-        let cluster = self.below(2) as u8;
+        let cluster = if self.below(2) == 0 { 0 } else { 1 };
         match self.below(8) {
             0 | 1 => Act::Select,
             2 => Act::Offer { cluster },
@@ -54,7 +54,11 @@ impl Numbers {
 
     /// A line of one of three actors.
     fn line(&mut self) -> Line {
-        let actor = self.below(3) as u8;
+        let actor = match self.below(3) {
+            0 => 0,
+            1 => 1,
+            _ => 2,
+        };
         let act = self.act();
         let moment = self.below(3);
         let step = Step { moment, actor, act };
@@ -367,7 +371,7 @@ fn as_a_search_over_all_orders(rt: HostRuntime) -> Result<(), Fail> {
 fn whole_histories_again(rt: HostRuntime) -> Result<(), Fail> {
     let mut numbers = Numbers { state: 11 };
     for _ in 0..LONG {
-        let count = 24 + numbers.below(24);
+        let count = numbers.below(24).saturating_add(24);
         let lines = history(rt.alloc(), &mut numbers, count)?;
         let journals = journals_of(rt.alloc(), &lines, usize::MAX, Slip::Dropped)?;
         let logs = logs_of(rt.alloc(), &lines)?;
