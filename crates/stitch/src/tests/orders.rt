@@ -1,5 +1,5 @@
-//! Lists made by a fixed generator: whole ones are stitched again, and short ones with one slip
-//! are stitched exactly where a search over all orders of their logs finds a history.
+//! Lists made by a fixed generator: whole histories are stitched again, and short lists with one
+//! slip are stitched exactly where a search over all orders of their logs finds a history.
 
 ghost use Rattle.std.specs.Prelude.{◌<◌};
 
@@ -15,10 +15,10 @@ use std::test::Fail;
 const HOMES: [usize; 3] = [0, 1, 0];
 
 /// How many short lists are searched.
-const SHORT: u32 = 40;
+const SHORT: u32 = 2000;
 
 /// How many long histories are stitched.
-const LONG: u32 = 20;
+const LONG: u32 = 2000;
 
 /// Numbers from a fixed seed.
 #[derive(Drop)]
@@ -344,6 +344,14 @@ fn searched(
     Ok(None)
 }
 
+/// Whether the line at a place of a history is one of a journal.
+fn is_in_a_journal(lines: &[Line], k: usize) -> bool {
+    match lines.get(k) {
+        Some(line) => place(HOMES, line).is_some(),
+        None => false,
+    }
+}
+
 #[test]
 fn as_a_search_over_all_orders(rt: HostRuntime) -> Result<(), Fail> {
     let mut numbers = Numbers { state: 7 };
@@ -381,6 +389,31 @@ fn whole_histories_again(rt: HostRuntime) -> Result<(), Fail> {
                 assert!(rt; has_logs(rt.alloc(), &logs, &lines)?);
                 assert!(rt; is_lowest(&lines));
             }
+            _ => assert!(rt; false),
+        }
+    }
+    Ok(())
+}
+
+/// A line that is dropped, doubled or marked in its journal fits no history; one that is moved can.
+#[test]
+fn long_histories_with_a_slip(rt: HostRuntime) -> Result<(), Fail> {
+    let mut numbers = Numbers { state: 13 };
+    for _ in 0..LONG {
+        let count = numbers.below(24).saturating_add(24);
+        let lines = history(rt.alloc(), &mut numbers, count)?;
+        let slipping = numbers.below(24) as usize;
+        let slip = numbers.slip();
+        let journals = journals_of(rt.alloc(), &lines, slipping, slip)?;
+        let logs = logs_of(rt.alloc(), &lines)?;
+        let slips = is_in_a_journal(&lines, slipping);
+        match stitched(rt.alloc(), &journals, &logs) {
+            Ok(Some(lines)) => {
+                assert!(rt; !slips || matches!(slip, Slip::Moved | Slip::Late));
+                assert!(rt; has_journals(rt.alloc(), &journals, &lines)?);
+                assert!(rt; has_logs(rt.alloc(), &logs, &lines)?);
+            }
+            Err(StitchError::Astray(_)) => assert!(rt; slips),
             _ => assert!(rt; false),
         }
     }
