@@ -229,7 +229,7 @@ fn count_of(lines: &[Line], actor: usize) -> u64 {
 }
 
 /// The first lines of the logs in an order: two bits of the code are the actor of each line, the
-/// first line's the highest. `None` where a log has no line left, or the order is of more lines.
+/// first line's the highest and those behind `count` lines 0. `None` where a log has no line left.
 fn order(
     alloc: Global,
     logs: &[Journal],
@@ -239,16 +239,17 @@ fn order(
     let mut lines = Vec::new(alloc);
     for k in 0..6u16 {
         let actor = ((code >> (10 - 2 * k)) % 4) as usize;
-        if lines.len() == count {
-            return Ok(Some(lines));
-        }
         let next = match logs.get(actor) {
             Some(log) => line_after(log, count_of(&lines, actor)),
             None => None,
         };
         match next {
-            Some(line) => lines.push(line)?,
-            None => return Ok(None),
+            Some(line) if lines.len() < count => lines.push(line)?,
+            _ => {
+                if lines.len() < count || actor != 0 {
+                    return Ok(None);
+                }
+            }
         }
     }
     Ok(Some(lines))
