@@ -15,10 +15,10 @@ use std::test::Fail;
 const HOMES: [usize; 3] = [0, 1, 0];
 
 /// How many short lists are searched.
-const SHORT: u32 = 2000;
+const SHORT: u32 = 10_000;
 
 /// How many long histories are stitched.
-const LONG: u32 = 2000;
+const LONG: u32 = 20_000;
 
 /// Numbers from a fixed seed.
 #[derive(Drop)]
@@ -400,6 +400,7 @@ fn whole_histories_again(rt: HostRuntime) -> Result<(), Fail> {
 #[test]
 fn long_histories_with_a_slip(rt: HostRuntime) -> Result<(), Fail> {
     let mut numbers = Numbers { state: 13 };
+    let mut found = 0u32;
     for _ in 0..LONG {
         let count = numbers.below(24).saturating_add(24);
         let lines = history(rt.alloc(), &mut numbers, count)?;
@@ -413,10 +414,12 @@ fn long_histories_with_a_slip(rt: HostRuntime) -> Result<(), Fail> {
                 assert!(rt; !slips || matches!(slip, Slip::Moved | Slip::Late));
                 assert!(rt; has_journals(rt.alloc(), &journals, &lines)?);
                 assert!(rt; has_logs(rt.alloc(), &logs, &lines)?);
+                found = found.saturating_add(1);
             }
             Err(StitchError::Astray(_)) => assert!(rt; slips),
             _ => assert!(rt; false),
         }
     }
+    assert!(rt; found > LONG / 8 && found < LONG / 8 * 7);
     Ok(())
 }
