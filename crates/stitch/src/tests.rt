@@ -14,6 +14,8 @@ use sched_base::{Act, Answer, Entry, Step};
 use std::alloc::Global;
 use std::test::Fail;
 
+mod orders;
+
 fn line(moment: u64, actor: u8, act: Act) -> Line {
     let step = Step { moment, actor, act };
     Line {
