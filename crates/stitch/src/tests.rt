@@ -32,14 +32,22 @@ fn offer(actor: u8, cluster: u8) -> Line {
     line(0, actor, Act::Offer { cluster })
 }
 
-/// The line of a letter: selects `a`, `c` of actor 0 and `d` of actor 1, offers `b` and `e` of each.
+fn none_blocked() -> Line {
+    let mut told = line(0, 0, Act::Blocked);
+    told.entry.answer = Answer::Left(0);
+    told
+}
+
+/// The line of a letter: selects `a`, `c` of actor 0 and `d` of actor 1, offers `b` and `e` of each, and `f` the answer to
+/// actor 0 that no thread is blocked.
 fn line_of(letter: u8) -> Line {
     match letter {
         b'a' => line(0, 0, Act::Select),
         b'b' => offer(0, 1),
         b'c' => line(5, 0, Act::Select),
         b'd' => line(0, 1, Act::Select),
-        _ => offer(1, 0),
+        b'e' => offer(1, 0),
+        _ => none_blocked(),
     }
 }
 
@@ -134,6 +142,7 @@ fn astray(
 fn crafted_lists(rt: HostRuntime) -> Result<(), Fail> {
     let first = Spot::Cluster(0);
     let [a, c, d, e] = [line_of(b'a'), line_of(b'c'), line_of(b'd'), line_of(b'e')];
+    let idle = none_blocked();
     let table = [
         ("ea/bd/", "ab/de", "", astray(first, 0, Some(e), 1, Some(d))),
         ("ae/db/", "ab/de", "adbe", None),
@@ -141,6 +150,13 @@ fn crafted_lists(rt: HostRuntime) -> Result<(), Fail> {
         ("a//", "ac/", "", astray(first, 1, None, 0, Some(c))),
         ("a//", "/", "", astray(first, 0, Some(a), 0, None)),
         ("ca/d/", "ac/d", "", astray(first, 0, Some(c), 0, Some(a))),
+        ("aa/ffff", "faffaf", "faffaf", None),
+        (
+            "aa/",
+            "faffaf",
+            "",
+            astray(first, 0, Some(a), 0, Some(idle)),
+        ),
     ];
     for (journals, logs, lines, stop) in table {
         let journals = journals_of(rt.alloc(), journals)?;
