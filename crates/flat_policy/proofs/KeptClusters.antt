@@ -1,5 +1,5 @@
 -- Each call leaves what every cluster keeps, and an entry leaves by its place.
-use Rattle.std.proofs.Common.{◌≡◌, ◌≢◌, ℕ, zero, suc, ◌+◌, ◌<◌, ◌==◌, Bool, true, false, not, Contains, AllPairs, List, [], ◌∷◌, length, get_or, Option, Some, None, refl, sym, ap, ◌∙◌, subst, arith, eq-eqb}
+use Rattle.std.proofs.Common.{◌≡◌, ◌≢◌, ℕ, zero, suc, ◌+◌, ◌≤◌, ◌<◌, ◌==◌, Bool, true, false, not, Contains, AllPairs, List, [], ◌∷◌, length, get_or, Option, Some, None, refl, sym, ap, ◌∙◌, subst, arith, eq-eqb}
 use Rattle.std.proofs.lemmas.Bool.{cond-false, cond-true, ne_eqb}
 use Rattle.std.proofs.lemmas.List.{get_or_default, length-map, length_push}
 use Rattle.std.proofs.lemmas.List.Edits.{length-remove}
@@ -10,7 +10,7 @@ use Rattle.sched_base.specs.declared.Facts.{Facts}
 use Rattle.flat_policy.specs.Laws.Clusters.{LeavesItsPlace, StaysCluster}
 use Rattle.flat_policy.specs.Laws.Kept.{RisesBy}
 use Rattle.flat_policy.specs.Laws.Sound.{FlatFits}
-use Rattle.flat_policy.specs.Policy.Clusters.{ClusterView, IsCluster, after_offer, after_pull, after_refresh, after_select, after_touch, after_turn, entered_in, moment_at, offer_of, pick_of, slots_without, without_some}
+use Rattle.flat_policy.specs.Policy.Clusters.{ClusterView, IsCluster, SameRoom, after_offer, after_pull, after_refresh, after_select, after_touch, after_turn, entered_in, moment_at, offer_of, pick_of, slots_without, without_some}
 use Rattle.flat_policy.specs.Policy.ClusterSteps.{flat_after_offer, touched}
 use Rattle.flat_policy.specs.Policy.Moves.{entered, new_entry, pick, removed, selected, settled_thread, without}
 use Rattle.flat_policy.specs.Policy.Offer.{mask_between}
@@ -88,6 +88,53 @@ kept_without v s (Some e) k fits some none =
       slot_each = omega (arith, k.slot_each, slots, entries, length-remove v.flat.entries c.0 c.1, length-remove v.slots c.0 (omega (arith, c.1, k.slot_each)));
       slots_differ = subst (AllPairs (λ i j. i ≢ j)) (sym left.slots) (all_pairs_remove (λ i j. i ≢ j) v.slots c.0 (omega (arith, c.1, k.slot_each)) k.slots_differ);
     }
+
+-- entries and spare room after one entry left
+room_without : (v : ClusterView) (s : Flat) (o : Option Queued) → IsCluster v
+    → ((e : Queued) → o ≡ Some e → Contains v.flat.entries e × (s.entries ≡ without e.arrival v.flat.entries))
+    → (o ≡ None → s.entries ≡ v.flat.entries) → SameRoom v (without_some o s v)
+room_without v s None k some none = omega (arith, ap length (none refl))
+room_without v s (Some e) k some none =
+    let there = some e refl in
+    let c = there.0 in
+    let left = leaves_by_place v.flat.entries v.slots e c.0 k.fits.formed.arrivals_rise k.slot_each c.1 c.2 in
+    omega (arith, ap length (there.1 ∙ left.entries), length-remove v.flat.entries c.0 c.1, c.1)
+
+enter_room : (v : ClusterView) (t : Facts) (head : Bool) (now slot : ℕ) → 1 ≤ v.spare → SameRoom v (entered_in v t head now slot)
+enter_room v t head now slot room =
+    let m = moment_at v now in
+    let ts = cluster_times v.setup v.number in
+    let long : length (entered ts t head m v.flat).entries ≡ length v.flat.entries + 1 =
+    ap length (entered_entries ts t head m v.flat) ∙ length_push v.flat.entries (new_entry v.flat (settled_thread m t) head) in
+    omega (arith, room, long)
+
+select_room : (v : ClusterView) → IsCluster v → (now : ℕ) → SameRoom v (after_select v now)
+select_room v k now =
+    let m = moment_at v now in
+    let ts = cluster_times v.setup v.number in
+    let e = selected_entries ts m v.flat in
+    room_without v (selected ts m v.flat) (pick ts m v.flat) k
+    (λ q h. (pick_stands ts m v.flat q h, e ∙ ap (λ o. left_by o v.flat.entries) h))
+    (λ h. e ∙ ap (λ o. left_by o v.flat.entries) h)
+
+offer_room : (v : ClusterView) → IsCluster v → (to now : ℕ) → SameRoom v (after_offer v to now)
+offer_room v k to now =
+    let m = moment_at v now in
+    let o : Option Queued = offer_of v to in
+    let s : Flat = flat_after_offer m v.flat o in
+    let e = after_offer_entries m v.flat o in
+    let stands : (q : Queued) → o ≡ Some q → Contains v.flat.entries q =
+    λ q h. (offered_stands to (migrates v.setup v.number to) (mask_between v.setup v.number to v.flat.on) v.flat q h).0 in
+    room_without v s o k
+    (λ q h. (stands q h, e ∙ ap (λ o. left_by o v.flat.entries) h))
+    (λ h. e ∙ ap (λ o. left_by o v.flat.entries) h)
+
+pull_room : (v : ClusterView) → IsCluster v → (e : Queued) (now : ℕ) → Contains v.flat.entries e → SameRoom v (after_pull v (Some e) now)
+pull_room v k e now c =
+    let m = moment_at v now in
+    room_without v (removed e m v.flat) (Some e) k
+    (λ q h. (subst (Contains v.flat.entries) (same_Some e q h) c, removed_entries e m v.flat ∙ ap (λ (f : Queued). without f.arrival v.flat.entries) (same_Some e q h)))
+    (λ h. absurd (none-some e (sym h)))
 
 -- a moment of a call is in range
 moment_soon : (v : ClusterView) (now : ℕ) → IsCluster v → now < moment_limit → moment_at v now < moment_limit
@@ -168,6 +215,10 @@ calls_keep v k = record {
   refreshing = refresh_keeps v k;
   turning = turn_keeps v k;
   touching = touch_keeps v k;
+  entering_room = enter_room v;
+  selecting_room = select_room v k;
+  offering_room = offer_room v k;
+  pulling_room = pull_room v k;
   selecting_rises = λ now. rises_with v (selected (cluster_times v.setup v.number) (moment_at v now) v.flat) (pick_of v now)
       (selected_reaches (cluster_times v.setup v.number) (moment_at v now) v.flat).rises;
 }

@@ -42,6 +42,7 @@ pub mod Parts
 pub mod PickIsOne
 pub mod Picks
 pub mod PlaceOf
+mod PlaceWhere
 pub mod Placed
 pub mod Precedes
 pub mod Prefixes

@@ -29,12 +29,12 @@ found_counted p (x ∷ xs) =
     ]
 
 -- a name is told of the queues by the first that has it, or none has it
-abbrev InQueues : List Flat → ℕ → ℕ → Type 0
+abbrev pub InQueues : List Flat → ℕ → ℕ → Type 0
 InQueues ss c name =
     ((queued_in ss c name ≡ None) × (sum_by (count_queued name) ss ≡ 0))
     ⊎ ((k : ℕ) × (n : ℕ) × (n ≡ c + k) × (k < length ss) × (queued_in ss c name ≡ Some (places.Queue n)) × (1 ≤ count_queued name (get_or ss k (empty_flat 0))))
 
-queue_of : (ss : List Flat) (c name : ℕ) → InQueues ss c name
+pub queue_of : (ss : List Flat) (c name : ℕ) → InQueues ss c name
 queue_of [] c name = inl (refl, refl)
 queue_of (s ∷ ss) c name =
     elim (counted (λ (e : Queued). e.facts.name == name) s.entries) [
@@ -56,12 +56,12 @@ queue_of (s ∷ ss) c name =
     ]
 
 -- and so of the hands
-abbrev InHands : List Hand → ℕ → ℕ → Type 0
+abbrev pub InHands : List Hand → ℕ → ℕ → Type 0
 InHands hs a name =
     ((held_by hs a name ≡ None) × (sum_by (count_held name) hs ≡ 0))
     ⊎ ((k : ℕ) × (n : ℕ) × (n ≡ a + k) × (k < length hs) × (held_by hs a name ≡ Some (places.Hand n)) × (1 ≤ count_held name (get_or hs k no_hand)))
 
-hand_of : (hs : List Hand) (a name : ℕ) → InHands hs a name
+pub hand_of : (hs : List Hand) (a name : ℕ) → InHands hs a name
 hand_of [] a name = inl (refl, refl)
 hand_of (h ∷ hs) a name =
     elim (cases_Bool (holds name h.thread)) [

@@ -4,7 +4,7 @@ ghost use Rattle.std.specs.Prelude.{◌≡◌, ◌≢◌, ◌≤◌, ◌<◌, �
 ghost use Rattle.sched_base.specs.declared.Facts.{Facts};
 ghost use Rattle.flat_policy.specs.Laws.Kept.{RisesBy};
 ghost use Rattle.flat_policy.specs.Policy.Aim.{MayEnter, load};
-ghost use Rattle.flat_policy.specs.Policy.Clusters.{ClusterView, HasNumbers, IsCluster, IsSomeEntry, after_offer, after_pull, after_refresh, after_select, after_touch, after_turn, entered_in, moment_at, new_cluster, offer_of, pick_of, standing};
+ghost use Rattle.flat_policy.specs.Policy.Clusters.{ClusterView, HasNumbers, IsCluster, IsSomeEntry, SameRoom, after_offer, after_pull, after_refresh, after_select, after_touch, after_turn, entered_in, moment_at, new_cluster, offer_of, pick_of, standing};
 ghost use Rattle.flat_policy.specs.Policy.ClusterSteps.{facts_of};
 ghost use Rattle.flat_policy.specs.Policy.Moves.{new_entry, settled_thread};
 ghost use Rattle.flat_policy.specs.Policy.Queue.{Queued};
@@ -24,7 +24,8 @@ use std::alloc::{AllocError, Global};
 ///
 /// Every moment is in microseconds and below 2^40; the effective moment of a call is the greater of
 /// the one handed in and the last. A call that takes a moment sets the last moment to it. Only
-/// `new` and `reserve` take memory; each removal raises the spare room by 1.
+/// `new` and `reserve` take memory; each removal raises the spare room by 1 and each enter lowers it
+/// by 1, so that entries and spare room are together as many as before.
 pub trait Cluster: Sized {
     ghost view: { Self → ClusterView };
 
@@ -56,7 +57,8 @@ pub trait Cluster: Sized {
         ensures cluster { result.cluster ≡ (view self.old).number }
         ensures arrival { result.arrival ≡ (view self.old).flat.next_arrival }
         ensures pri { result.pri ≡ (new_entry (view self.old).flat (settled_thread (moment_at (view self.old) now) t) head).pri }
-        ensures rises { RisesBy 1 1 (view self.old).flat (view self.new).flat };
+        ensures rises { RisesBy 1 1 (view self.old).flat (view self.new).flat }
+        ensures room { SameRoom (view self.old) (view self.new) };
 
     /// The pick leaves the queue; none exactly where nothing is queued. Windows expire either way.
     fn select(&mut self, now: u64) -> Option<Thread>
@@ -64,7 +66,8 @@ pub trait Cluster: Sized {
         requires numbers { HasNumbers (view self.old).flat }
         ensures picked { result ≡ facts_of (pick_of (view self.old) now) }
         ensures view { view self.new ≡ after_select (view self.old) now }
-        ensures rises { RisesBy 0 1 (view self.old).flat (view self.new).flat };
+        ensures rises { RisesBy 0 1 (view self.old).flat (view self.new).flat }
+        ensures room { SameRoom (view self.old) (view self.new) };
 
     /// The thread that is offered to another cluster leaves the queue; none exactly where that
     /// cluster may take no thread. `rebalance` and `mask` are those of the edge to it; the mask is
@@ -78,7 +81,8 @@ pub trait Cluster: Sized {
         requires numbers { HasNumbers (view self.old).flat }
         ensures offered { result ≡ facts_of (offer_of (view self.old) to) }
         ensures view { view self.new ≡ after_offer (view self.old) to now }
-        ensures rises { RisesBy 0 1 (view self.old).flat (view self.new).flat };
+        ensures rises { RisesBy 0 1 (view self.old).flat (view self.new).flat }
+        ensures room { SameRoom (view self.old) (view self.new) };
 
     /// The entry that a ticket names leaves the queue; none, and nothing changes, exactly where no
     /// entry stands in the ticket's slot with its arrival.
@@ -87,7 +91,8 @@ pub trait Cluster: Sized {
         requires numbers { HasNumbers (view self.old).flat }
         ensures pulled { result ≡ facts_of (standing (view self.old) t.slot t.arrival) }
         ensures view { view self.new ≡ after_pull (view self.old) (standing (view self.old) t.slot t.arrival) now }
-        ensures rises { RisesBy 0 1 (view self.old).flat (view self.new).flat };
+        ensures rises { RisesBy 0 1 (view self.old).flat (view self.new).flat }
+        ensures room { SameRoom (view self.old) (view self.new) };
 
     /// The load of the queue for a bucket, in microseconds for each processor.
     fn look(&mut self, b: Bucket, now: u64) -> u32
@@ -136,7 +141,8 @@ pub trait Cluster: Sized {
         requires numbers { HasNumbers (view self.old).flat }
         ensures taken { (e : Option Queued) × IsSomeEntry (view self.old).flat e × (result ≡ facts_of e)
             × (view self.new ≡ after_pull (view self.old) e (view self.old).flat.last) }
-        ensures rises { RisesBy 0 1 (view self.old).flat (view self.new).flat };
+        ensures rises { RisesBy 0 1 (view self.old).flat (view self.new).flat }
+        ensures room { SameRoom (view self.old) (view self.new) };
 
     /// Ends a cluster in which nothing is queued.
     fn end(self)

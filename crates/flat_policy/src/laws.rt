@@ -10,7 +10,7 @@ ghost use Rattle.flat_policy.specs.Laws.Units.{FilledLaneHasFirstClutch, FirstGo
 ghost use Rattle.flat_policy.specs.Laws.Picks.{PrecedesOrders, GoesBeforeOrders, ChoosesAFilledLane, PickIsOne};
 ghost use Rattle.flat_policy.specs.Laws.Sound.{EmptyIsSound, FittingPrefersAmong, StepsKeepSound};
 ghost use Rattle.flat_policy.specs.Laws.Loads.{LoadIsNotRefused, LoadSleepsOne};
-ghost use Rattle.flat_policy.specs.Laws.Places.{LiveIsMadeNotEnded, PlaceIsTheOne, PrefixesAreHistories, TakersMayTake, WholeRunsKeepPlaces};
+ghost use Rattle.flat_policy.specs.Laws.Places.{LiveIsMadeNotEnded, PlaceIsTheOne, PlaceIsWhereItStands, PrefixesAreHistories, TakersMayTake, WholeRunsKeepPlaces};
 ghost use Rattle.flat_policy.specs.Laws.Refreshing.{RefreshesByBucket};
 ghost use Rattle.flat_policy.specs.Laws.Windows.{SetupsHaveQuanta};
 ghost use Rattle.flat_policy.specs.Laws.Counts.{StepsKeepCounts, RunsKeepCounts, RunsStaySound, RunsStayWithin};
@@ -207,6 +207,11 @@ pub fn setups_have_quanta()
 /// The place that is told of a name is the one where it stands.
 pub fn place_is_the_one()
     ensures { PlaceIsTheOne }
+{}
+
+/// Where a name stands is the place that is told of it.
+pub fn place_is_where_it_stands()
+    ensures { PlaceIsWhereItStands }
 {}
 
 /// Each prefix of a history of the machine is one.

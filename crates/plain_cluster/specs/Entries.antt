@@ -11,10 +11,11 @@ pub record Slotted : Type 0 where
   pub entry : Queued
   pub slot : ℕ
 
--- the entries and the slots of some rows
+-- the entries of some rows
 abbrev pub entries_of : List Slotted → List Queued
 entries_of rows = map (λ (r : Slotted). r.entry) rows
 
+-- the slots of some rows
 abbrev pub slots_of : List Slotted → List ℕ
 slots_of rows = map (λ (r : Slotted). r.slot) rows
 

@@ -24,10 +24,11 @@ with_flag at filled [] fs = []
 with_flag at filled (l ∷ ls) [] = []
 with_flag at filled (l ∷ ls) (f ∷ fs) = (if same_lane l.lane at then filled else f) ∷ with_flag at filled ls fs
 
--- a lane that was empty is filled at a moment, and a lane is empty
+-- a lane that was empty is filled at a moment
 abbrev pub filled_at : ℕ → Lane → WindowState → WindowState
 filled_at now at w = record w { lanes = at_lane at (renewed_deadline w.times now) w.lanes; filled = with_flag at true w.lanes w.filled }
 
+-- a lane is empty
 abbrev pub cleared : Lane → WindowState → WindowState
 cleared at w = record w { filled = with_flag at false w.lanes w.filled }
 

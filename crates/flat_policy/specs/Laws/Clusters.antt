@@ -1,17 +1,18 @@
 -- Laws of clusters in code: each call leaves what every cluster keeps, and an entry leaves by its place.
 use Rattle.std.specs.List.{remove}
-use Rattle.std.specs.Prelude.{Bool, Contains, List, Some, length, slice_index_or, ℕ, ◌<◌, ◌≡◌}
+use Rattle.std.specs.Prelude.{Bool, Contains, List, Some, length, slice_index_or, ℕ, ◌<◌, ◌≡◌, ◌≤◌}
 use Rattle.sched_base.specs.Limits.{moment_limit, most_threads}
 use Rattle.sched_base.specs.declared.Facts.{Facts}
 use Rattle.flat_policy.specs.Laws.Kept.{RisesBy}
-use Rattle.flat_policy.specs.Policy.Clusters.{ClusterView, IsCluster, after_offer, after_pull, after_refresh, after_select, after_touch, after_turn, entered_in, slots_without}
+use Rattle.flat_policy.specs.Policy.Clusters.{ClusterView, IsCluster, SameRoom, after_offer, after_pull, after_refresh, after_select, after_touch, after_turn, entered_in, slots_without}
 use Rattle.flat_policy.specs.Policy.Moves.{without}
 use Rattle.flat_policy.specs.Policy.Queue.{Queued}
 use Rattle.flat_policy.specs.Policy.Threads.{ThreadFits}
 use Rattle.flat_policy.specs.Policy.WellFormed.{ArrivalsRise}
 
 -- after each call a cluster keeps what it kept before: after an enter where there is room, the thread fits and the slot is free, after a pull
--- of an entry that stands there, and after every other; and a selection raises the next turn by one at most
+-- of an entry that stands there, and after every other; entries and spare room stay together as many, and a selection raises the next turn
+-- by one at most
 pub record StaysCluster (v : ClusterView) : Type 0 where
   pub entering : (t : Facts) (head : Bool) (now slot : ℕ) → length v.flat.entries < most_threads → ThreadFits v.setup t → now < moment_limit → ¬ Contains v.slots slot → IsCluster (entered_in v t head now slot)
   pub selecting : (now : ℕ) → now < moment_limit → IsCluster (after_select v now)
@@ -20,6 +21,10 @@ pub record StaysCluster (v : ClusterView) : Type 0 where
   pub refreshing : (now : ℕ) → now < moment_limit → IsCluster (after_refresh v now)
   pub turning : (on : Bool) (now : ℕ) → now < moment_limit → IsCluster (after_turn v on now)
   pub touching : (now : ℕ) → now < moment_limit → IsCluster (after_touch v now)
+  pub entering_room : (t : Facts) (head : Bool) (now slot : ℕ) → 1 ≤ v.spare → SameRoom v (entered_in v t head now slot)
+  pub selecting_room : (now : ℕ) → SameRoom v (after_select v now)
+  pub offering_room : (to now : ℕ) → SameRoom v (after_offer v to now)
+  pub pulling_room : (e : Queued) (now : ℕ) → Contains v.flat.entries e → SameRoom v (after_pull v (Some e) now)
   pub selecting_rises : (now : ℕ) → RisesBy 0 1 v.flat (after_select v now).flat
 
 -- every cluster stays one

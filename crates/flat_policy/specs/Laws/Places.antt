@@ -3,6 +3,7 @@ use Rattle.std.specs.List.{list_any}
 use Rattle.std.specs.Prelude.{Bool, List, Some, count_by, not, ℕ, ◌++◌, ◌==◌, ◌∷◌, ◌≡◌, ◌≤◌}
 use Rattle.sched_base.specs.declared.Entry.{Entry}
 use Rattle.sched_base.specs.declared.Facts.{Facts}
+use Rattle.sched_base.specs.declared.Place.{Place}
 use Rattle.flat_policy.specs.declared.journal.Line.{Line}
 use Rattle.flat_policy.specs.Laws.Counts.{EachNameOnce}
 use Rattle.flat_policy.specs.Policy.Aim.{MayEnter}
@@ -18,6 +19,10 @@ use Rattle.sched_base.specs.declared.Answer.TheVariants as answers
 -- a name that stands in at most one place stands as often at the place that is told of it as anywhere
 abbrev pub PlaceIsTheOne : Type 0
 PlaceIsTheOne = (g : MachineState) (name : ℕ) → place_count g name ≤ 1 → count_at g (place_of g name) name ≡ place_count g name
+
+-- and where such a name stands is the place that is told of it
+abbrev pub PlaceIsWhereItStands : Type 0
+PlaceIsWhereItStands = (g : MachineState) (p : Place) (name : ℕ) → place_count g name ≤ 1 → 1 ≤ count_at g p name → place_of g name ≡ p
 
 -- each prefix of a history of the machine is one, and the rest goes on from where it leads
 abbrev pub PrefixesAreHistories : Type 0

@@ -65,26 +65,29 @@ abbrev pub without_some : Option Queued → Flat → ClusterView → ClusterView
 without_some None s v = with_queue s v
 without_some (Some e) s v = record v { flat = s; slots = slots_without e.arrival v.flat.entries v.slots; spare = v.spare + 1 }
 
--- the pick, and the cluster after it is selected, whether the cluster is on or off
+-- the pick, whether the cluster is on or off
 abbrev pub pick_of : ClusterView → ℕ → Option Queued
 pick_of v now = pick (cluster_times v.setup v.number) (moment_at v now) v.flat
 
+-- the cluster after the pick is selected
 abbrev pub after_select : ClusterView → ℕ → ClusterView
 after_select v now = without_some (pick_of v now) (selected (cluster_times v.setup v.number) (moment_at v now) v.flat) v
 
--- the entry offered to another cluster, and the cluster after it left
+-- the entry offered to another cluster
 abbrev pub offer_of : ClusterView → ℕ → Option Queued
 offer_of v to = offered_between v.setup v.number to v.flat
 
+-- the cluster after the offered entry left
 abbrev pub after_offer : ClusterView → ℕ → ℕ → ClusterView
 after_offer v to now = without_some (offer_of v to) (flat_after_offer (moment_at v now) v.flat (offer_of v to)) v
 
--- the entry that stands in a slot with an arrival
+-- the first of some entries that lies in a slot and has an arrival, by the slots in the order of the entries
 abbrev pub standing_among : ℕ → ℕ → List Queued → List ℕ → Option Queued
 standing_among slot arrival [] slots = None
 standing_among slot arrival (e ∷ es) [] = None
 standing_among slot arrival (e ∷ es) (k ∷ ks) = if (k == slot) && (e.arrival == arrival) then Some e else standing_among slot arrival es ks
 
+-- the entry that stands in a slot with an arrival
 abbrev pub standing : ClusterView → ℕ → ℕ → Option Queued
 standing v slot arrival = standing_among slot arrival v.flat.entries v.slots
 
@@ -109,3 +112,7 @@ after_touch v now = with_queue (touched (moment_at v now) v.flat) v
 abbrev pub IsSomeEntry : Flat → Option Queued → Type 0
 IsSomeEntry s None = length s.entries ≡ 0
 IsSomeEntry s (Some e) = Contains s.entries e
+
+-- the entries and the spare room are together as many as before
+abbrev pub SameRoom : ClusterView → ClusterView → Type 0
+SameRoom v next = next.spare + length next.flat.entries ≡ v.spare + length v.flat.entries
