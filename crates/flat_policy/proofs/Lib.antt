@@ -53,6 +53,7 @@ pub mod Refreshes
 pub mod Runs
 pub mod SetupLaws
 pub mod SoundParts
+mod StandsOn
 pub mod StepsKeep
 pub mod Takers
 pub mod Turns

@@ -1,7 +1,7 @@
 //! Laws that show that the definitions say what is meant. Each is the contract of a function that does nothing.
 
 ghost use Rattle.flat_policy.specs.Laws.Choice.{ChoiceIsOne, ChoiceGoesByMembers};
-ghost use Rattle.flat_policy.specs.Laws.Clusters.{CallsKeepClusters, EntriesLeaveByPlace};
+ghost use Rattle.flat_policy.specs.Laws.Clusters.{CallsKeepClusters, CallsKeepStanding, EntriesLeaveByPlace};
 ghost use Rattle.flat_policy.specs.Laws.Kept.{EmptyIsWellFormed, HistoriesKeepWellFormed, StepsKeepWellFormed, StepsRiseByFew};
 ghost use Rattle.flat_policy.specs.Laws.Aims.{AimMayBeEntered, LightestGainsMost};
 ghost use Rattle.flat_policy.specs.Laws.Offers.{MaskedOffersByLane, OffersAreOne, OffersWhatMayBeTaken};
@@ -253,6 +253,11 @@ pub fn first_goes_by_keys()
 /// After each call every cluster keeps what it kept before.
 pub fn calls_keep_clusters()
     ensures { CallsKeepClusters }
+{}
+
+/// Each call leaves every thread standing in its slot, but for the one that leaves.
+pub fn calls_keep_standing()
+    ensures { CallsKeepStanding }
 {}
 
 /// An entry leaves the entries, and its slot the slots, at its place.

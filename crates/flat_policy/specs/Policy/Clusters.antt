@@ -116,3 +116,12 @@ IsSomeEntry s (Some e) = Contains s.entries e
 -- the entries and the spare room are together as many as before
 abbrev pub SameRoom : ClusterView → ClusterView → Type 0
 SameRoom v next = next.spare + length next.flat.entries ≡ v.spare + length v.flat.entries
+
+-- a thread of a name stands in a slot with an arrival
+abbrev pub NameStands : ClusterView → ℕ → ℕ → ℕ → Type 0
+NameStands v slot arrival name = (e : Queued) × (standing v slot arrival ≡ Some e) × (e.facts.name ≡ name)
+
+-- an entry, where there is one, is of another name
+abbrev pub IsOther : ℕ → Option Queued → Type 0
+IsOther name None = Unit {0}
+IsOther name (Some e) = e.facts.name ≢ name
