@@ -1,7 +1,9 @@
 -- What a count says, and facts of each entry at its place.
-use Rattle.std.proofs.Common.{◌≡◌, ℕ, zero, suc, inl, inr, ◌<◌, ◌==◌, Bool, true, not, ◌||◌, List, [], ◌∷◌, filter, get_or, length, refl, sym, ap, ◌∙◌, subst, arith}
+use Rattle.std.proofs.Common.{◌≡◌, ℕ, zero, suc, inl, inr, ◌<◌, ◌≤◌, ◌==◌, Bool, true, not, ◌||◌, List, [], ◌∷◌, filter, get_or, length, take, refl, sym, ap, ◌∙◌, subst, arith}
 use Rattle.std.specs.List.{list_any}
 use Rattle.std.proofs.lemmas.Bool.{cond-false, cond-true, cases_Bool, ne_eqb}
+use Rattle.std.proofs.lemmas.List.{length-map, length-take}
+use Rattle.std.proofs.lemmas.List.Sums.{count_by-le-length, length-filter}
 use Rattle.flat_policy.specs.Policy.Queue.{Queued, clutch_of, clutch_place}
 use Rattle.flat_policy.specs.Policy.WellFormed.{EachQueued}
 use Rattle.plain_cluster.specs.Entries.{Slotted, entries_of}
@@ -29,6 +31,12 @@ passes_by_count p rows seen n same count =
 pub members_by_count : (p : Queued → Bool) (rows seen : List Slotted) (n : ℕ) → seen ≡ rows → n ≡ length (filter p (entries_of seen)) → not (n == 0) ≡ list_any (λ (e : Queued). true) (filter p (entries_of rows))
 members_by_count p rows seen n same count =
     ap (λ m. not (m == 0)) (count ∙ ap (λ (rs : List Slotted). length (filter p (entries_of rs))) same) ∙ sym (any_member (filter p (entries_of rows)))
+
+-- no more pass than there are
+pub few_pass : (p : Queued → Bool) (rows : List Slotted) (i : ℕ) → length (filter p (entries_of (take i rows))) ≤ length rows
+few_pass p rows i =
+    let seen = take i rows in
+    omega (arith, length-filter p (entries_of seen), count_by-le-length p (entries_of seen), length-map seen (λ (r : Slotted). r.entry), length-take i rows)
 
 -- a fact of each entry, at a place
 pub each_at : (P : Queued → Type 0) (rows : List Slotted) (i : ℕ) (x : Slotted) → EachQueued P (entries_of rows) → i < length rows → x ≡ get_or rows i x → P x.entry

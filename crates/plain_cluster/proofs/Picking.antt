@@ -243,6 +243,11 @@ expired_queue q w now k is =
     subst p (sym is) (queue_with q.groups q (expired_window q.windows.times now) k (expired_names q.windows.times now), refl, refl)
 
 -- so that the chosen lane has one
-pub no_first : ChoiceIsOne Queued → FirstGoesByKeys → (x n : Queue) (now : ℕ) (at : Lane) → IsChosen x n now at → None ≡ unpreceded (precedes_in_lane (flat_of n)) (lane_entries (flat_of n) at) → ⊥
+no_first : ChoiceIsOne Queued → FirstGoesByKeys → (x n : Queue) (now : ℕ) (at : Lane) → IsChosen x n now at → None ≡ unpreceded (precedes_in_lane (flat_of n)) (lane_entries (flat_of n) at) → ⊥
 no_first one keys x n now at c none =
     false≢true (ap is_some none ∙ first_there one keys x.groups n at c.queue (ap (λ (r : RowList). list_any (in_lane at) (entries_of r.rows)) c.rows ∙ c.filled))
+
+pub first_found_there : ChoiceIsOne Queued → FirstGoesByKeys → (x n : Queue) (now : ℕ) (at : Lane) (place : Option ℕ) → IsChosen x n now at
+    → entry_at n.rows.rows place ≡ unpreceded (precedes_in_lane (flat_of n)) (lane_entries (flat_of n) at) → is_some place ≡ true
+first_found_there one keys x n now at None c first = absurd (no_first one keys x n now at c first)
+first_found_there one keys x n now at (Some place) c first = refl

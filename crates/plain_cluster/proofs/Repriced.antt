@@ -7,6 +7,7 @@ use Rattle.std.proofs.lemmas.List.Folds.{list_any_at}
 use Rattle.std.proofs.lemmas.List.Sums.{count_by-le-length, length-filter, sum_by-cons}
 use Rattle.std.proofs.lemmas.Option.{get_or_from_slice_get, slice_get_within}
 use Rattle.sched_base.specs.Bucket.{index}
+use Rattle.sched_base.specs.Limits.{most_groups}
 use Rattle.sched_base.specs.declared.Facts.{Facts}
 use Rattle.bucket_tables.specs.declared.Lane.{Lane}
 use Rattle.flat_policy.specs.Policy.Queue.{Flat, Queued, clutch_entries, clutch_of, in_clutch, in_lane, lane, lane_entries, lane_of, same_bucket, same_lane, unit_entries}
@@ -15,7 +16,7 @@ use Rattle.flat_policy.specs.Policy.Usage.{decay, priority}
 use Rattle.flat_policy.specs.Policy.WellFormed.{EachQueued}
 use Rattle.plain_cluster.specs.Entries.{Slotted, entries_of, slots_of}
 use Rattle.plain_cluster.specs.Queues.{IsQueue, flat_of}
-use Rattle.plain_cluster.specs.Repricing.{CanPrice, CountsAre, count_of, is_changed, priced}
+use Rattle.plain_cluster.specs.Repricing.{CanPrice, CountsAre, HaveGroups, count_of, is_changed, priced}
 use Rattle.plain_cluster.specs.declared.counts.Counts.{Counts}
 use Rattle.plain_cluster.specs.declared.queue.Queue.{Queue}
 use Rattle.plain_cluster.proofs.Buckets.{same_lane_itself}
@@ -32,8 +33,8 @@ some_there zero h = absurd (false≢true h)
 some_there (suc n) h = omega arith
 
 -- a row is priced as its entry is
-priced_is : (groups : ℕ) (s : Flat) (counts : Counts) (now : ℕ) (r : Slotted) → CountsAre groups s counts → r.entry.facts.group < groups → (priced counts now r).entry ≡ repriced s now r.entry
-priced_is groups s counts now r are h =
+priced_is : (s : Flat) (counts : Counts) (now : ℕ) (r : Slotted) → CountsAre s counts → (priced counts now r).entry ≡ repriced s now r.entry
+priced_is s counts now r are =
     let e = r.entry in
     let t : Facts = record e.facts { usage = decay e.facts.usage e.facts.seen now; seen = now } in
     let one : Slotted = record r { entry = record e { facts = t; pri = priority t.base t.bucket t.usage (count_of counts e.facts) } } in
@@ -41,14 +42,28 @@ priced_is groups s counts now r are h =
     elim (cases_Bool (is_ui e.facts.bucket)) [
       | inl u ↦ ap (λ (x : Slotted). x.entry) (cond-true (is_ui e.facts.bucket) r one u) ∙ sym (cond-true (is_ui e.facts.bucket) e two u)
       | inr u ↦ ap (λ (x : Slotted). x.entry) (cond-false (is_ui e.facts.bucket) r one u)
-          ∙ (ap (λ (n : ℕ). record e { facts = t; pri = priority t.base t.bucket t.usage n }) (are e.facts h)
+          ∙ (ap (λ (n : ℕ). record e { facts = t; pri = priority t.base t.bucket t.usage n }) (are e.facts)
           ∙ sym (cond-false (is_ui e.facts.bucket) e two u))
     ]
 
-pub priced_are : (groups : ℕ) (s : Flat) (counts : Counts) (now : ℕ) (rows : List Slotted) → CountsAre groups s counts → EachQueued (λ (e : Queued). e.facts.group < groups) (entries_of rows)
-    → entries_of (map (priced counts now) rows) ≡ map (repriced s now) (entries_of rows)
-priced_are groups s counts now [] are each = refl
-priced_are groups s counts now (r ∷ rs) are each = ap₂ (λ e es. e ∷ es) (priced_is groups s counts now r are each.0) (priced_are groups s counts now rs are each.1)
+pub priced_are : (s : Flat) (counts : Counts) (now : ℕ) (rows : List Slotted) → CountsAre s counts → entries_of (map (priced counts now) rows) ≡ map (repriced s now) (entries_of rows)
+priced_are s counts now [] are = refl
+priced_are s counts now (r ∷ rs) are = ap₂ (λ e es. e ∷ es) (priced_is s counts now r are) (priced_are s counts now rs are)
+
+-- groups stay
+priced_group : (counts : Counts) (now : ℕ) (r : Slotted) → (priced counts now r).entry.facts.group ≡ r.entry.facts.group
+priced_group counts now r =
+    let e = r.entry in
+    let t : Facts = record e.facts { usage = decay e.facts.usage e.facts.seen now; seen = now } in
+    cond_both (is_ui e.facts.bucket) r (record r { entry = record e { facts = t; pri = priority t.base t.bucket t.usage (count_of counts e.facts) } }) (λ (x : Slotted). x.entry.facts.group ≡ e.facts.group) (λ h. refl) (λ h. refl)
+
+pub priced_groups : (counts : Counts) (now : ℕ) (rows : List Slotted) → HaveGroups (entries_of rows) → HaveGroups (entries_of (map (priced counts now) rows))
+priced_groups counts now [] each = tt
+priced_groups counts now (r ∷ rs) each = (omega (arith, priced_group counts now r, each.0), priced_groups counts now rs each.1)
+
+pub have_groups : (groups : ℕ) (es : List Queued) → groups ≤ most_groups → EachQueued (λ (e : Queued). e.facts.group < groups) es → HaveGroups es
+have_groups groups [] most each = tt
+have_groups groups (e ∷ es) most each = (omega (arith, most, each.0), have_groups groups es most each.1)
 
 -- slots stay
 priced_slot : (counts : Counts) (now : ℕ) (r : Slotted) → (priced counts now r).slot ≡ r.slot
@@ -62,14 +77,14 @@ priced_slots counts now [] = refl
 priced_slots counts now (r ∷ rs) = ap₂ (λ k ks. k ∷ ks) (priced_slot counts now r) (priced_slots counts now rs)
 
 -- as many priorities change
-pub changed_are : (groups : ℕ) (s : Flat) (counts : Counts) (now : ℕ) (rows : List Slotted) → CountsAre groups s counts → EachQueued (λ (e : Queued). e.facts.group < groups) (entries_of rows)
+pub changed_are : (s : Flat) (counts : Counts) (now : ℕ) (rows : List Slotted) → CountsAre s counts
     → count_by (is_changed counts now) rows ≡ count_by (λ (e : Queued). not ((repriced s now e).pri == e.pri)) (entries_of rows)
-changed_are groups s counts now [] are each = refl
-changed_are groups s counts now (r ∷ rs) are each =
+changed_are s counts now [] are = refl
+changed_are s counts now (r ∷ rs) are =
     let f : Slotted → ℕ = λ x. cond (is_changed counts now x) 1 0 in
     let g : Queued → ℕ = λ e. cond (not ((repriced s now e).pri == e.pri)) 1 0 in
     sum_by-cons f r rs
-    ∙ (ap₂ (λ (a b : ℕ). a + b) (ap (λ (e : Queued). cond {A = ℕ} (not (e.pri == r.entry.pri)) 1 0) (priced_is groups s counts now r are each.0)) (changed_are groups s counts now rs are each.1)
+    ∙ (ap₂ (λ (a b : ℕ). a + b) (ap (λ (e : Queued). cond {A = ℕ} (not (e.pri == r.entry.pri)) 1 0) (priced_is s counts now r are)) (changed_are s counts now rs are)
     ∙ sym (sum_by-cons g r.entry (entries_of rs)))
 
 -- lanes stay
@@ -113,12 +128,12 @@ unit_few s t =
     (λ h. omega (arith, length-filter q s.entries, count_by-le-length q s.entries))
 
 -- each row can be priced
-pub can_price : (groups : ℕ) (q : Queue) (counts : Counts) → groups ≤ 64 → IsQueue groups q → CountsAre groups (flat_of q) counts → (place : ℕ) (r : Slotted) → slice_get q.rows.rows place ≡ Some r → CanPrice counts r
+pub can_price : (groups : ℕ) (q : Queue) (counts : Counts) → groups ≤ most_groups → IsQueue groups q → CountsAre (flat_of q) counts → (place : ℕ) (r : Slotted) → slice_get q.rows.rows place ≡ Some r → CanPrice counts r
 can_price groups q counts most k are place r h =
     let within = slice_get_within q.rows.rows place r h in
     let is : r ≡ get_or q.rows.rows place r = sym (get_or_from_slice_get q.rows.rows place r r h) in
     let low = each_at (λ (e : Queued). e.facts.group < groups) q.rows.rows place r k.formed.groups_below within is in
-    let count = are r.entry.facts low in
+    let count = are r.entry.facts in
     let one = own_unit (flat_of q) r.entry place (omega (arith, within, length-map q.rows.rows (λ (x : Slotted). x.entry))) (got_entry q.rows.rows place r within is) in
     record {
       group = omega (arith, low, most);

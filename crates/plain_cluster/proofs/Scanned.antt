@@ -1,6 +1,6 @@
 -- Passes over rows, one row after the other.
-use Rattle.std.proofs.Common.{◌≡◌, ℕ, ◌+◌, ◌<◌, ◌≤◌, max, Bool, true, false, cond, List, [], ◌∷◌, ◌++◌, filter, fold, get_or, length, map, take, sym, ap, ◌∙◌}
-use Rattle.std.proofs.lemmas.Bool.{cond-false, cond-true}
+use Rattle.std.proofs.Common.{◌≡◌, ℕ, ◌+◌, ◌<◌, ◌≤◌, max, Bool, true, false, cond, List, [], ◌∷◌, ◌++◌, filter, fold, get_or, length, map, take, sym, ap, ◌∙◌, inl, inr, arith}
+use Rattle.std.proofs.lemmas.Bool.{cases_Bool, cond-false, cond-true}
 use Rattle.std.proofs.lemmas.List.{append-nil, length_push, map-append, map_more, take_all}
 use Rattle.std.proofs.lemmas.List.Elements.{filter-append}
 use Rattle.std.proofs.lemmas.List.Sums.{fold-append}
@@ -48,6 +48,16 @@ pub counted_no : (p : Queued → Bool) (rows : List Slotted) (i : ℕ) (x : Slot
     → length (filter p (entries_of (take (i + 1) rows))) ≡ length (filter p (entries_of (take i rows)))
 counted_no p rows i x within is fails = ap length (passed_no p rows i x within is fails)
 
+-- one row more, counted where it passes
+pub counted_more : (p : Queued → Bool) (rows : List Slotted) (i : ℕ) (x : Slotted) → i < length rows → x ≡ get_or rows i x
+    → length (filter p (entries_of (take (i + 1) rows))) ≡ length (filter p (entries_of (take i rows))) + cond (p x.entry) 1 0
+counted_more p rows i x within is =
+    let n = length (filter p (entries_of (take i rows))) in
+    elim (cases_Bool (p x.entry)) [
+      | inl h ↦ counted_yes p rows i x within is h ∙ ap (λ (b : Bool). n + cond b 1 0) (sym h)
+      | inr h ↦ counted_no p rows i x within is h ∙ (let same : n ≡ n + 0 = omega arith in same ∙ ap (λ (b : Bool). n + cond b 1 0) (sym h))
+    ]
+
 -- the greatest of some numbers and one more
 pub greatest_yes : (p : Queued → Bool) (rows : List Slotted) (i : ℕ) (x : Slotted) → i < length rows → x ≡ get_or rows i x → p x.entry ≡ true
     → greatest_pri (filter p (entries_of (take (i + 1) rows))) ≡ max (greatest_pri (filter p (entries_of (take i rows)))) x.entry.pri
@@ -59,6 +69,15 @@ greatest_yes p rows i x within is passes =
 pub greatest_no : (p : Queued → Bool) (rows : List Slotted) (i : ℕ) (x : Slotted) → i < length rows → x ≡ get_or rows i x → p x.entry ≡ false
     → greatest_pri (filter p (entries_of (take (i + 1) rows))) ≡ greatest_pri (filter p (entries_of (take i rows)))
 greatest_no p rows i x within is fails = ap greatest_pri (passed_no p rows i x within is fails)
+
+pub greatest_more : (p : Queued → Bool) (rows : List Slotted) (i : ℕ) (x : Slotted) → i < length rows → x ≡ get_or rows i x
+    → greatest_pri (filter p (entries_of (take (i + 1) rows))) ≡ cond (p x.entry) (max (greatest_pri (filter p (entries_of (take i rows)))) x.entry.pri) (greatest_pri (filter p (entries_of (take i rows))))
+greatest_more p rows i x within is =
+    let n = greatest_pri (filter p (entries_of (take i rows))) in
+    elim (cases_Bool (p x.entry)) [
+      | inl h ↦ greatest_yes p rows i x within is h ∙ sym (cond-true (p x.entry) (max n x.entry.pri) n h)
+      | inr h ↦ greatest_no p rows i x within is h ∙ sym (cond-false (p x.entry) (max n x.entry.pri) n h)
+    ]
 
 -- all rows
 pub taken_all : (rows : List Slotted) (n : ℕ) → length rows ≤ n → take n rows ≡ rows

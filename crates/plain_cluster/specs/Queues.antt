@@ -1,4 +1,4 @@
--- What the queue in code means.
+-- What the queue in code means. The view of a cluster stands on the first two definitions; the others serve private calls only.
 use Rattle.std.specs.Prelude.{List, None, Option, Some, true, map, ℕ, ◌+◌, ◌≡◌}
 use Rattle.bucket_tables.specs.declared.Lane.{Lane}
 use Rattle.flat_policy.specs.Policy.Clusters.{slots_without}

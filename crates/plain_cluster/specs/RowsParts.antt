@@ -1,4 +1,4 @@
--- What the fields of the rows keep.
+-- What the fields of the rows keep; for private calls only.
 use Rattle.std.specs.Prelude.{length, ◌+◌, ◌<◌, ◌^◌, ◌≤◌}
 use Rattle.std.specs.Vec.{vec_capacity}
 use Rattle.plain_cluster.specs.Entries.{EachSlotOnce, slots_of}

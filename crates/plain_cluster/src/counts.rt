@@ -1,8 +1,9 @@
 //! How many entries each unit has, and rows priced by that.
 
-ghost use Rattle.std.specs.Prelude.{◌≡◌, ◌<◌, ◌^◌, Some, count_by, length, map, slice_get, ℕ};
-ghost use Rattle.plain_cluster.specs.Entries.{Slotted};
-ghost use Rattle.plain_cluster.specs.Repricing.{CanPrice, count_of, is_changed, priced};
+ghost use Rattle.std.specs.Prelude.{◌≡◌, ◌<◌, ◌+◌, ◌^◌, Some, count_by, filter, if◌then◌else◌, length, map, slice_get, ℕ};
+ghost use Rattle.sched_base.specs.declared.Facts.{Facts};
+ghost use Rattle.plain_cluster.specs.Entries.{Slotted, entries_of};
+ghost use Rattle.plain_cluster.specs.Repricing.{CanPrice, HaveGroups, count_of, in_unit, is_changed, priced};
 
 use crate::row::Row;
 use bucket_tables::Table;
@@ -19,6 +20,46 @@ pub struct Counts {
 }
 
 impl Counts {
+    /// The counts of these entries, in one pass.
+    pub fn of_rows(rows: &[Row]) -> Counts
+        requires groups { HaveGroups (entries_of rows.now) }
+        requires few { length rows.now < 2 ^ 32 }
+        ensures { (t : Facts) → count_of result t ≡ length (filter (in_unit t) (entries_of rows.now)) }
+    {
+        let mut counts = Counts::none();
+        for row in rows {
+            counts.add(row);
+        }
+        counts
+    }
+
+    /// No entries.
+    fn none() -> Counts
+        ensures { (t : Facts) → count_of result t ≡ 0 }
+    {
+        Counts {
+            unbound: Table::filled(0),
+            bound: [0; BUCKET_COUNT],
+        }
+    }
+
+    /// One more entry.
+    fn add(&mut self, row: &Row)
+        requires group { row.now.entry.facts.group < MOST_GROUPS }
+        requires few { count_of self.old row.now.entry.facts < 2 ^ 32 }
+        ensures { (t : Facts) → count_of self.new t ≡ count_of self.old t + (if in_unit t row.now.entry then 1 else 0) }
+    {
+        let facts = row.facts();
+        let count = self.of(&facts);
+        let column = facts.bucket.index() as usize;
+        self.unbound.keeps_shape();
+        if facts.bound.is_some() {
+            self.bound[column] = count + 1;
+        } else {
+            self.unbound.set(facts.group as usize, column, count + 1);
+        }
+    }
+
     /// How many entries the unit of a thread has.
     fn of(&self, facts: &Facts) -> u64
         requires { facts.now.group < MOST_GROUPS }

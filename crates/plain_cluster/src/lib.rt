@@ -1,7 +1,9 @@
 //! The queue of a cluster as one list of entries, in the order in which they arrived.
 //!
-//! Every call but `refresh` goes over the entries a fixed number of times, and `refresh` three times
-//! for each group and bucket. All moments and times are whole microseconds.
+//! Each call goes over the entries a fixed number of times at the most: `look` once, `refresh` and
+//! `take_any` four times, `enter` five times, `pull` six times, `select` eight times and `offer`
+//! thirteen times; to close the gap of one that leaves counts as once. All other calls don't. All
+//! moments and times are whole microseconds.
 #![tactic(auto)]
 
 mod counts;

@@ -1,16 +1,20 @@
 //! Passes over rows.
 
-ghost use Rattle.std.specs.Prelude.{◌≡◌, ◌≤◌, ◌<◌, filter, length};
+ghost use Rattle.std.specs.Prelude.{◌≡◌, ◌≤◌, ◌<◌, filter, if◌then◌else◌, length, max};
 ghost use Rattle.std.specs.Option.{ForSome};
 ghost use Rattle.flat_policy.specs.Policy.Clusters.{standing_among};
 ghost use Rattle.flat_policy.specs.Policy.Precedence.{greatest_pri};
-ghost use Rattle.flat_policy.specs.Policy.Queue.{in_clutch, in_lane};
+ghost use Rattle.flat_policy.specs.Policy.Queue.{Clutch, in_clutch, in_lane};
 ghost use Rattle.plain_cluster.specs.Entries.{clutch, entries_of, entry_at, is_unbound_to, slots_of};
+ghost use Rattle.plain_cluster.specs.Repricing.{HaveGroups, cell};
 
 use crate::row::Row;
-use bucket_tables::Lane;
+use bucket_tables::{Lane, Table};
 use sched_base::Bucket;
-use sched_base::limits::MOST_BASE;
+use sched_base::limits::{BUCKET_COUNT, MOST_BASE, MOST_GROUPS};
+
+/// A number for each clutch bucket, by group and bucket index.
+pub type ClutchTable = Table<MOST_GROUPS, BUCKET_COUNT>;
 
 /// How many entries of a lane there are.
 pub fn count_in_lane(rows: &[Row], lane: Lane) -> usize
@@ -52,6 +56,32 @@ pub fn greatest_in_clutch(rows: &[Row], group: u8, bucket: Bucket) -> u8
         }
     }
     greatest
+}
+
+/// The greatest priority of each clutch bucket, and 0 where it has no entries.
+pub fn clutch_tops(rows: &[Row]) -> ClutchTable
+    requires { HaveGroups (entries_of rows.now) }
+    ensures { (k : Clutch) → cell result k ≡ greatest_pri (filter (in_clutch k) (entries_of rows.now)) }
+{
+    let mut tops = Table::filled(0);
+    for row in rows {
+        raise_top(&mut tops, row);
+    }
+    tops
+}
+
+/// The greatest priority of a row's clutch bucket is that of the row at least.
+fn raise_top(tops: &mut ClutchTable, row: &Row)
+    requires { row.now.entry.facts.group < MOST_GROUPS }
+    ensures { (k : Clutch) → cell tops.new k ≡ (if in_clutch k row.now.entry then max (cell tops.old k) row.now.entry.pri else cell tops.old k) }
+{
+    tops.keeps_shape();
+    let facts = row.facts();
+    let (group, column) = (facts.group as usize, facts.bucket.index() as usize);
+    if facts.bound.is_none() {
+        let top = tops.get(group, column);
+        tops.set(group, column, top.max(u64::from(row.pri())));
+    }
 }
 
 /// Where the entry stands that lies in a slot and has an arrival; `None` exactly where there is

@@ -66,10 +66,8 @@ impl Queue {
             return None;
         }
         let lane = self.choose(now);
-        match self.first_of(lane) {
-            Some(place) => Some(self.take_selected(place, now)),
-            None => None,
-        }
+        let place = self.first_of(lane).unwrap();
+        Some(self.take_selected(place, now))
     }
 
     /// The lane that is chosen, once windows have expired. Its windows change with it.

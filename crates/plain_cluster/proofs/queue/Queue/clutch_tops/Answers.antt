@@ -1,26 +1,12 @@
-use Rattle.std.proofs.Common.{◌<◌, List, ℕ, length, ap, ◌∙◌, arith}
-use Rattle.std.proofs.lemmas.List.{length-set}
+use Rattle.std.proofs.Common.{List, filter, sym, ap, ◌∙◌, subst}
 use Rattle.flat_policy.specs.Policy.Precedence.{greatest_pri}
-use Rattle.flat_policy.specs.Policy.Queue.{Clutch, clutch_entries}
-use Rattle.plain_cluster.specs.Queues.{flat_of}
-use Rattle.plain_cluster.specs.Repricing.{cell}
-use Rattle.plain_cluster.proofs.Tables.{cell_more}
+use Rattle.flat_policy.specs.Policy.Queue.{in_clutch}
+use Rattle.plain_cluster.specs.Entries.{Slotted, entries_of}
+use Rattle.plain_cluster.specs.Repricing.{HaveGroups}
 use Rattle.plain_cluster.proofs.queue.Queue.clutch_tops.Goals as goal
 
-pub loop-group-preserved : goal.loop-group-preserved
-loop-group-preserved c =
-    let q = c.args.self.now in
-    let table = c.loop-group.tops in
-    let group = c.loop-group.group in
-    let row = c.group_tops.result in
-    let inv = c.loop-group.invariant in
-    let within : group < length table = omega (arith, inv.long, c.loop-group-test.true, c.requires) in
-    record {
-      long = ap length c.set_row.ensures ∙ (length-set table group row ∙ inv.long);
-      cells = λ k h. ap (λ (t : List (List ℕ)). cell t k) c.set_row.ensures ∙ cell_more table group row (λ (k : Clutch). greatest_pri (clutch_entries (flat_of q) k)) within c.group_tops.ensures inv.cells k h;
-    }
+pub clutch_tops-requires : goal.clutch_tops-requires
+clutch_tops-requires c = subst (λ (rs : List Slotted). HaveGroups (entries_of rs)) (sym c.as_slice.ensures) c.requires
 
 pub returns : goal.returns
-returns c =
-    let q = c.args.self.now in
-    λ k h. c.loop-group.invariant.cells k (omega (arith, h, c.loop-group-test.false))
+returns c = λ k. c.clutch_tops.ensures k ∙ ap (λ (rs : List Slotted). greatest_pri (filter (in_clutch k) (entries_of rs))) c.as_slice.ensures

@@ -1,11 +1,11 @@
-use Rattle.std.proofs.Common.{◌≡◌, ℕ, ◌+◌, ◌==◌, List, Some, [], filter, get_or, set, ap, sym, ◌∙◌, subst, arith, eq-eqb}
+use Rattle.std.proofs.Common.{◌≡◌, ℕ, ◌+◌, ◌==◌, Some, [], filter, get_or, set, ap, sym, ◌∙◌, arith, eq-eqb}
 use Rattle.std.proofs.lemmas.Bool.{cond-false, cond-true, ne_eqb}
 use Rattle.flat_policy.specs.Laws.Refreshing.{with_turns_of}
 use Rattle.flat_policy.specs.Policy.Moves.{with_next_turn}
 use Rattle.flat_policy.specs.Policy.Precedence.{greatest_pri}
 use Rattle.flat_policy.specs.Policy.Queue.{Flat, clutch_place, in_clutch}
 use Rattle.flat_policy.specs.Policy.Refresh.{turn_on_refresh}
-use Rattle.plain_cluster.specs.Entries.{Slotted, UnitList, clutch, entries_of}
+use Rattle.plain_cluster.specs.Entries.{RowList, UnitList, clutch, entries_of}
 use Rattle.plain_cluster.specs.Queues.{flat_of}
 use Rattle.plain_cluster.specs.Repricing.{TopsAre}
 use Rattle.plain_cluster.specs.declared.queue.Queue.{Queue}
@@ -23,11 +23,11 @@ loop-group-preserved c =
     let k = clutch g b in
     let inv = c.loop-group.invariant in
     let was = c.get-was.result in
-    let top = c.from-top.result in
-    let tops = c.args.before.now in
-    let before = λ (s : Flat) (are : TopsAre q.groups s tops). c.get-was.ensures ∙ (ap (λ (j : ℕ). get_or (get_or tops g []) j 0) c.index.ensures.index ∙ are k c.loop-group-test.true) in
-    let after : top ≡ greatest_pri (filter (in_clutch k) (entries_of x.rows.rows)) =
-    c.from-top.ensures ∙ (c.greatest_in_clutch.ensures.greatest ∙ ap (λ (rs : List Slotted). greatest_pri (filter (in_clutch k) (entries_of rs))) c.as_slice.ensures) in
+    let top = c.get-top.result in
+    let before = λ (s : Flat) (are : TopsAre s c.args.before.now). c.get-was.ensures ∙ (ap (λ (j : ℕ). get_or (get_or c.args.before.now g []) j 0) c.index.ensures.index ∙ are k) in
+    let after = λ (are : TopsAre (flat_of q) c.args.after.now).
+    c.get-top.ensures ∙ (ap (λ (j : ℕ). get_or (get_or c.args.after.now g []) j 0) c.index-in-loop-group.ensures.index
+    ∙ (are k ∙ ap (λ (r : RowList). greatest_pri (filter (in_clutch k) (entries_of r.rows))) (sym (ap (λ (v : Queue). v.rows) inv.queue)))) in
     elim c.if-was-top.branch [
       | then-was-top w ↦ (
           let u : UnitList = record x.units { turns = set x.units.turns (clutch_place k) (Some x.units.next_turn); next_turn = x.units.next_turn + 1 } in
@@ -38,11 +38,11 @@ loop-group-preserved c =
             queue = is ∙ (ap (λ (v : Queue). record v { units = u }) inv.queue ∙ ap (λ (v : UnitList). record q { units = v }) (sym (ap (λ (v : Queue). v.units) is)));
             spans = ap (λ (v : Queue). v.units.spans) is ∙ inv.spans;
             turn = omega (arith, next, inv.turn);
-            turns = λ s are sp.
+            turns = λ s were are sp.
                 let step : turn_on_refresh s (flat_of x) k ≡ with_next_turn k (flat_of x) =
-                turn_by_tops s (flat_of x) k was top (sp ∙ sym inv.spans) (before s are) after ∙ cond-false (was == top) (flat_of x) (with_next_turn k (flat_of x)) (ne_eqb was top w.if-was-top.true) in
+                turn_by_tops s (flat_of x) k was top (sp ∙ sym inv.spans) (before s were) (after are) ∙ cond-false (was == top) (flat_of x) (with_next_turn k (flat_of x)) (ne_eqb was top w.if-was-top.true) in
                 ap (λ (f : Flat). turns_from s f b (g + 1) q.groups) (ap flat_of is ∙ sym step)
-                ∙ (sym (turns_one s (flat_of x) b g q.groups c.loop-group-test.true) ∙ inv.turns s are sp);
+                ∙ (sym (turns_one s (flat_of x) b g q.groups c.loop-group-test.true) ∙ inv.turns s were are sp);
           })
       | else-was-top w ↦ (
           let is : y ≡ x = w.self-is in
@@ -51,11 +51,11 @@ loop-group-preserved c =
             queue = is ∙ (inv.queue ∙ ap (λ (v : UnitList). record q { units = v }) (sym (ap (λ (v : Queue). v.units) is)));
             spans = ap (λ (v : Queue). v.units.spans) is ∙ inv.spans;
             turn = omega (arith, next, inv.turn);
-            turns = λ s are sp.
+            turns = λ s were are sp.
                 let step : turn_on_refresh s (flat_of x) k ≡ flat_of x =
-                turn_by_tops s (flat_of x) k was top (sp ∙ sym inv.spans) (before s are) after ∙ cond-true (was == top) (flat_of x) (with_next_turn k (flat_of x)) (eq-eqb was top w.if-was-top.false) in
+                turn_by_tops s (flat_of x) k was top (sp ∙ sym inv.spans) (before s were) (after are) ∙ cond-true (was == top) (flat_of x) (with_next_turn k (flat_of x)) (eq-eqb was top w.if-was-top.false) in
                 ap (λ (f : Flat). turns_from s f b (g + 1) q.groups) (ap flat_of is ∙ sym step)
-                ∙ (sym (turns_one s (flat_of x) b g q.groups c.loop-group-test.true) ∙ inv.turns s are sp);
+                ∙ (sym (turns_one s (flat_of x) b g q.groups c.loop-group-test.true) ∙ inv.turns s were are sp);
           })
     ]
 
@@ -70,7 +70,7 @@ returns c =
       queue = inv.queue;
       spans = inv.spans;
       turn = omega (arith, inv.turn, c.requires.groups, c.loop-group.auto.group-end);
-      turns = λ groups s e are sp.
+      turns = λ groups s e were are sp.
           sym (turns_none s (flat_of x) b g q.groups (omega (arith, c.loop-group-test.false)))
-          ∙ (inv.turns s (subst (λ (m : ℕ). TopsAre m s c.args.before.now) (sym e) are) sp ∙ ap (λ (m : ℕ). with_turns_of m s (flat_of q) b) e);
+          ∙ (inv.turns s were are sp ∙ ap (λ (m : ℕ). with_turns_of m s (flat_of q) b) e);
     }

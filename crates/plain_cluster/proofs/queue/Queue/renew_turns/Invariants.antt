@@ -11,6 +11,6 @@ invariant-loop-group l = record {
   queue : l.self ≡ record l.initial.self { units = l.self.units };
   spans : l.self.units.spans ≡ l.initial.self.units.spans;
   turn : l.self.units.next_turn ≤ l.initial.self.units.next_turn + l.group;
-  turns : (s : Flat) → TopsAre l.initial.self.groups s l.before → s.spans ≡ l.initial.self.units.spans
+  turns : (s : Flat) → TopsAre s l.before → TopsAre (flat_of l.initial.self) l.after → s.spans ≡ l.initial.self.units.spans
       → turns_from s (flat_of l.self) l.bucket l.group l.initial.self.groups ≡ with_turns_of l.initial.self.groups s (flat_of l.initial.self) l.bucket;
 }
