@@ -7,7 +7,8 @@ ghost use Rattle.ports.specs.NextLine.{IsOfBytes};
 
 use super::buffer::Buffer;
 use super::devices::Source;
-use super::judging::{first_newline, judge};
+use super::judging::judge;
+use super::newline_search::first_newline;
 use super::seeking::seek;
 use sched_base::limits::{INPUT_BYTES, PIECE_BYTES, SETUP_BYTES};
 use std::alloc::{AllocError, Global};
