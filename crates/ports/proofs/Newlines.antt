@@ -1,9 +1,13 @@
 -- What a search for a newline in a part of the bytes says of their front.
-use Rattle.std.proofs.Common.{◌≡◌, ◌≢◌, ℕ, ◌+◌, ◌-◌, ◌<◌, ◌≤◌, List, length, take, drop, get_or, Option, None, Some, arith, sym, ◌∙◌, ap, subst}
+use Rattle.std.proofs.Common.{◌≡◌, ◌≢◌, ℕ, ◌+◌, ◌-◌, ◌<◌, ◌≤◌, List, length, map, take, drop, get_or, Bool, true, false, cond, eqb, inl, inr, Option, None, Some, arith, refl, sym, ◌∙◌, ap, subst}
+use Rattle.std.specs.Int.{bit_at}
+use Rattle.std.specs.Simd.Lanes.{chunk, mask_l}
 use Rattle.std.specs.Prelude.{IfSome}
 use Rattle.std.proofs.Math.Seq.{take-add, take-length}
-use Rattle.std.proofs.lemmas.Bool.{eqb-true, eq-eqb}
-use Rattle.std.proofs.lemmas.List.{get_or-take, get_or-drop, length-take-le, length-drop, take-take}
+use Rattle.std.proofs.Math.ListN.{get_or-map}
+use Rattle.std.proofs.lemmas.Bool.{eqb-true, eqb-false, eq-eqb, cases_lt}
+use Rattle.std.proofs.lemmas.Simd.{bit_mask_l, length-chunk, get_or-chunk}
+use Rattle.std.proofs.lemmas.List.{get_or-take, get_or-drop, get_or_past, length-take-le, length-drop, take-take}
 use Rattle.std.proofs.lemmas.List.Elements.{All-append, All-from_get_or, All-take}
 use Rattle.memchr.specs.Find.{IsFirstByte, is_byte}
 use Rattle.ports.specs.Lines.{HasNoNewline, EndsAt, IsFirstNewline}
@@ -45,6 +49,38 @@ none_among bytes s within plain none =
     HasNoNewline-further bytes s (length bytes - s) (omega arith) plain (λ k below is.
     none k (omega arith) (rw (length-drop s bytes) below) (eq-eqb _ _ (get_or-part bytes s k ∙ is))) in
     subst HasNoNewline (ap (λ (n : ℕ). take n bytes) long ∙ take-length bytes) all
+
+-- a bit for each byte of a list says whether it is a newline, and past its end no bit is set
+bit_of : (bytes : List ℕ) (k : ℕ) → bit_at (mask_l (map (λ b. eqb b 10) bytes)) k ≡ cond (eqb (get_or bytes k 0) 10) 1 0
+bit_of bytes k = bit_mask_l (map (λ b. eqb b 10) bytes) k ∙ ap (λ (b : Bool). cond b 1 0) (get_or-map (λ b. eqb b 10) bytes k 0)
+
+set_is : (x : ℕ) (b : Bool) → eqb x 10 ≡ b → cond {A = ℕ} b 1 0 ≡ 1 → x ≡ 10
+set_is x true is set = eqb-true x 10 is
+set_is x false is set = absurd (omega arith)
+
+clear_is : (x : ℕ) (b : Bool) → eqb x 10 ≡ b → cond {A = ℕ} b 1 0 ≡ 0 → x ≢ 10
+clear_is x true is clear = absurd (omega arith)
+clear_is x false is clear = eqb-false x 10 is
+
+-- the lowest bit of a block of the bytes is its first newline
+pub found_nearby : (bytes : List ℕ) (s n k bits : ℕ) → s + n ≤ length bytes → HasNoNewline (take s bytes) →
+    bits ≡ mask_l (map (λ b. eqb b 10) (chunk s n bytes)) → bit_at bits k ≡ 1 → ((i : ℕ) → i < k → bit_at bits i ≡ 0) → EndsAt (length bytes) (s + k) bytes
+found_nearby bytes s n k bits room plain is set clear =
+    let block : List ℕ = chunk s n bytes in
+    let bit : (i : ℕ) → bit_at bits i ≡ cond (eqb (get_or block i 0) 10) 1 0 = λ i. ap (λ (m : ℕ). bit_at m i) is ∙ bit_of block i in
+    let here : get_or block k 0 ≡ 10 = set_is _ _ refl (sym (bit k) ∙ set) in
+    let near : k < n =
+    elim (cases_lt k n) [
+      | inl below ↦ below
+      | inr past ↦ absurd (omega (arith, here, get_or_past block k 0 (omega (arith, length-chunk s n bytes room))))
+    ] in
+    record {
+      early = omega arith;
+      within = omega arith;
+      plain = HasNoNewline-further bytes s k (omega arith) plain (λ i below same.
+          clear_is _ _ refl (sym (bit i) ∙ clear i below) (get_or-chunk s n bytes i 0 (omega arith) ∙ same));
+      newline = sym (get_or-chunk s n bytes k 0 near) ∙ here;
+    }
 
 -- a front that no place of a newline is in
 pub HasNoNewline-front : (bytes : List ℕ) (newline : Option ℕ) (m k : ℕ) → IsFirstNewline bytes newline → IfSome newline (λ n. k ≤ n) →

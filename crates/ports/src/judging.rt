@@ -1,10 +1,9 @@
 //! What bytes in hand say of the line that begins with them.
-ghost use Rattle.std.specs.Prelude.{◌≡◌, ◌<◌, ◌≤◌, length, take, IfSome, MatchOption};
-ghost use Rattle.ports.specs.Lines.{HasNoNewline, IsFirstNewline};
+ghost use Rattle.std.specs.Prelude.{◌≡◌, ◌<◌, ◌≤◌, IfSome, MatchOption};
+ghost use Rattle.ports.specs.Lines.{IsFirstNewline};
 ghost use Rattle.ports.specs.Judging.{IsJudged};
 
 use super::line_feed::Fed;
-use memchr::memchr;
 use sched_base::limits::SETUP_BYTES;
 
 /// What comes next, and how many bytes the line has where it is one; else 0.
@@ -23,20 +22,8 @@ impl Found {
     }
 }
 
-/// Where the first newline stands. The first `searched` bytes are known to have none.
-pub(super) fn first_newline(bytes: &[u8], searched: usize) -> Option<usize>
-    requires within { searched ≤ length bytes.now }
-    requires plain { HasNoNewline (take searched bytes.now) }
-    ensures place { IsFirstNewline bytes.now result }
-    ensures behind { IfSome result (λ n. searched ≤ n) }
-{
-    match memchr(b'\n', &bytes[searched..]) {
-        Some(at) => Some(searched + at),
-        None => None,
-    }
-}
-
 /// The place of a newline where it is below `most`.
+#[inline(always)]
 fn place_below(newline: Option<usize>, most: usize) -> Option<usize>
     ensures { MatchOption result (IfSome newline (λ n. most ≤ n)) (λ n. (newline ≡ Some n) × (n < most)) }
 {
@@ -48,6 +35,7 @@ fn place_below(newline: Option<usize>, most: usize) -> Option<usize>
 
 /// What comes next, where `bytes` say so; `None` where that depends on the bytes to come. Their first newline stands
 /// at `newline`. A line may have `limit` bytes, and only the first `counted` of all bytes count.
+#[inline(always)]
 pub(super) fn judge(
     bytes: &[u8],
     newline: Option<usize>,

@@ -10,6 +10,7 @@ pub mod gate;
 mod handing;
 mod judging;
 pub mod line_feed;
+mod newline_search;
 pub mod putting;
 mod seeking;
 pub mod std_ports;

@@ -7,7 +7,8 @@ ghost use Rattle.ports.specs.NextLine.{IsOfBytes};
 
 use super::buffer::Buffer;
 use super::devices::Source;
-use super::judging::{first_newline, judge};
+use super::judging::judge;
+use super::newline_search::first_newline;
 use super::seeking::seek;
 use sched_base::limits::{INPUT_BYTES, PIECE_BYTES, SETUP_BYTES};
 use std::alloc::{AllocError, Global};
@@ -87,6 +88,7 @@ impl LineFeed {
     ///
     /// The source is asked for no byte past `INPUT_BYTES + 1`, for none where the answer is at hand, and never again
     /// after a failure.
+    #[inline(always)]
     pub fn next<S: Source>(&mut self, source: &mut S, limit: u32) -> Fed
         requires limit { limit ≤ SETUP_BYTES }
         requires open { self.old.done ≡ false }
@@ -183,7 +185,7 @@ mod tests {
 
     #[test]
     fn the_lines_are_the_same_however_the_bytes_are_cut(rt: HostRuntime) -> Result<(), Fail> {
-        let cases: [(&[u8], u32, &[&[u8]], Fed); 8] = [
+        let cases: [(&[u8], u32, &[&[u8]], Fed); 9] = [
             (b"a\nb", 256, &[b"a"], Fed::Unfinished),
             (b"", 256, &[], Fed::End),
             (b"\n\nlast\n", 256, &[b"", b"", b"last"], Fed::End),
@@ -195,6 +197,17 @@ mod tests {
                 b"12345678\n12345678\n1234567\n",
                 8,
                 &[b"12345678", b"12345678", b"1234567"],
+                Fed::End,
+            ),
+            (
+                b"0 go\n\na line of 31 bytes: 01234567890\na line of 32 bytes: 012345678901\n",
+                32,
+                &[
+                    b"0 go",
+                    b"",
+                    b"a line of 31 bytes: 01234567890",
+                    b"a line of 32 bytes: 012345678901",
+                ],
                 Fed::End,
             ),
         ];

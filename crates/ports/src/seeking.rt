@@ -8,13 +8,15 @@ ghost use Rattle.ports.specs.Seeking.{IsFound, decided_behind};
 
 use super::buffer::Buffer;
 use super::devices::{Failed, Source};
-use super::judging::{Found, first_newline, judge};
+use super::judging::{Found, judge};
 use super::line_feed::Fed;
+use super::newline_search::first_newline;
 use sched_base::limits::{PIECE_BYTES, SETUP_BYTES};
 
 /// Finds what stands at the front of the buffer, whose first newline stands at `newline`, and of the source behind
 /// it. A line may have `limit` bytes, and only the first `counted` bytes count. Where the bytes in hand decide that,
 /// the source isn't asked.
+#[inline(always)]
 pub(super) fn seek<S: Source>(
     buffer: &mut Buffer,
     newline: Option<usize>,
@@ -44,6 +46,7 @@ pub(super) fn seek<S: Source>(
 
 /// Reads until the bytes in hand decide, where they don't yet. It asks the source at least once, and never again
 /// after a failure.
+#[inline(never)]
 fn read_on<S: Source>(buffer: &mut Buffer, source: &mut S, limit: usize, counted: usize) -> Found
     requires limit { limit ≤ SETUP_BYTES }
     requires sum { counted < 2 ^ 62 }

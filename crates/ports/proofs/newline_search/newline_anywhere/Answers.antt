@@ -1,6 +1,6 @@
 use Rattle.std.proofs.lemmas.List.{take_rest}
 use Rattle.ports.proofs.Newlines.{found_among, none_among}
-use Rattle.ports.proofs.judging.first_newline.Goals as goal
+use Rattle.ports.proofs.newline_search.newline_anywhere.Goals as goal
 
 pub returns-in-Some-clause-place : goal.returns-in-Some-clause-place
 returns-in-Some-clause-place c =
