@@ -1,0 +1,24 @@
+-- The yard of a machine in code: blocked threads in slots, the number of live threads, and where each name stands.
+use Rattle.std.specs.List.{list_any}
+use Rattle.std.specs.Prelude.{Bool, List, Option, find, option_map, ℕ, ◌==◌}
+use Rattle.std.specs.BTreeMap.{is_at}
+use Rattle.std.specs.Map.{lookup}
+use Rattle.std.specs.Ordering.{nat_cmp}
+use Rattle.link_arena.specs.Arena.{Arena}
+use Rattle.flat_policy.specs.Policy.Machine.{Sleeper}
+use Rattle.trace_machine.specs.declared.names.Standing.{Standing}
+use Rattle.trace_machine.specs.declared.yard.Resting.{Resting}
+
+-- the blocked threads in their slots, how many threads live, and the last moment
+pub record YardView : Type 0 where
+  pub sleepers : Arena Resting
+  pub live : ℕ
+  pub last : ℕ
+
+-- a blocked thread as the policy's
+abbrev pub sleeper_in : Resting → Sleeper
+sleeper_in w = record { facts = w.thread; since = w.since }
+
+-- where a name stands, by the entries of a table of names
+abbrev pub standing_of : List (ℕ × Standing) → ℕ → Option Standing
+standing_of entries name = lookup (is_at (nat_cmp name)) entries
