@@ -2,12 +2,14 @@
 
 ghost use Rattle.std.specs.Prelude.{◌≡◌, ◌<◌, ◌≤◌, ◌+◌, ◌^◌, Contains, IfOk, IsTrue, None, OnErr, OnOk, length, map};
 ghost use Rattle.sched_base.specs.declared.Step.{Step as StepTaken};
-ghost use Rattle.flat_policy.specs.Policy.Machine.{MachineState, fits_step, refusal, replies, states_after};
-ghost use Rattle.trace_machine.specs.Machines.{IsMachine, Means, StepsTo, reply_in};
+ghost use Rattle.flat_policy.specs.Policy.Machine.{MachineState, Yard, fits_step, refusal, replies, states_after};
+ghost use Rattle.trace_machine.specs.Acting.{KeepsOn};
+ghost use Rattle.trace_machine.specs.Machines.{IsMachine, Means, MeansOver, StepsTo, reply_in};
 
 use super::Machine;
 use crate::Reply;
 use flat_policy::cluster::Cluster;
+use flat_policy::laws::{place_is_the_one, place_is_where_it_stands, runs_keep_counts, runs_stay_sound, runs_stay_within};
 use sched_base::{Act, Answer, Step};
 use std::alloc::{AllocError, Global};
 
@@ -51,6 +53,18 @@ impl<K: Cluster> Machine<K> {
             }
             Act::Aim | Act::Ran { .. } => actor,
         }
+    }
+
+    /// Does nothing. It tells what the policy's laws say of what the machine means.
+    pub fn stays(&self)
+        ensures { (y : Yard) → MeansOver self.now y → KeepsOn self.now y }
+    {
+        let _steps = &self.steps;
+        runs_keep_counts();
+        runs_stay_sound();
+        runs_stay_within();
+        place_is_where_it_stands();
+        place_is_the_one();
     }
 
     /// What each act does.
