@@ -1,1 +1,4 @@
+pub mod InHands
+pub mod Readings
 pub mod Setting
+pub mod Touching
