@@ -1,0 +1,10 @@
+pub mod ActsTo
+pub mod Found
+pub mod Frames
+pub mod Histories
+pub mod InHands
+pub mod Keeping
+pub mod Readings
+pub mod Setting
+pub mod Standing
+pub mod Touching
