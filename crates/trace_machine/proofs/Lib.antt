@@ -1,3 +1,4 @@
 pub mod Found
 pub mod Histories
 pub mod Standing
+pub mod StandingFound
