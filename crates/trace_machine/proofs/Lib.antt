@@ -1,4 +1,11 @@
+pub mod ActsTo
 pub mod Found
+pub mod Frames
 pub mod Histories
+pub mod InHands
+pub mod Keeping
+pub mod Readings
+pub mod Setting
 pub mod Standing
 pub mod StandingFound
+pub mod Touching

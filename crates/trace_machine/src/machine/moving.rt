@@ -1,0 +1,82 @@
+//! Acts that move a thread between a hand and a queue.
+
+ghost use Rattle.std.specs.Prelude.{◌≡◌};
+ghost use Rattle.sched_base.specs.declared.Act.TheVariants as acts;
+ghost use Rattle.trace_machine.specs.Acting.{Acts, IsSet};
+
+use super::{Machine, place_at};
+use crate::names::Standing;
+use flat_policy::cluster::Cluster;
+use sched_base::Answer;
+
+impl<K: Cluster> Machine<K> {
+    /// The hand's thread enters a queue.
+    pub fn enter(&mut self, actor: u8, c: u8, head: bool, now: u64) -> Answer
+        requires { IsSet self.old actor now (acts.Enter c head) }
+        ensures { Acts self.old self.new actor now (acts.Enter c head) result }
+    {
+        let Some(name) = self.parts.held_name(actor) else {
+            return Answer::HandEmpty;
+        };
+        if self.parts.is_kept_out(actor, c) {
+            return Answer::NotAllowed;
+        }
+        let ticket = self.parts.enter(actor, c, head, now);
+        self.names.set(name, Standing::Queued(ticket));
+        Answer::Pri(ticket.pri)
+    }
+
+    /// The pick of the home's queue comes into the hand.
+    pub fn select(&mut self, actor: u8, now: u64) -> Answer
+        requires { IsSet self.old actor now acts.Select }
+        ensures { Acts self.old self.new actor now acts.Select result }
+    {
+        if self.parts.holds(actor) {
+            return Answer::HandFull;
+        }
+        let answer = self.parts.select(actor, now);
+        self.note_held(actor, answer);
+        answer
+    }
+
+    /// What another cluster offers comes into the hand.
+    pub fn offer(&mut self, actor: u8, from: u8, now: u64) -> Answer
+        requires { IsSet self.old actor now (acts.Offer from) }
+        ensures { Acts self.old self.new actor now (acts.Offer from) result }
+    {
+        if self.parts.holds(actor) {
+            return Answer::HandFull;
+        }
+        if self.parts.home(actor) == from {
+            return Answer::OwnCluster;
+        }
+        let answer = self.parts.offer(actor, from, now);
+        self.note_held(actor, answer);
+        answer
+    }
+
+    /// A named thread comes out of the home's queue into the hand.
+    pub fn pull(&mut self, actor: u8, name: u32, now: u64) -> Answer
+        requires { IsSet self.old actor now (acts.Pull name) }
+        ensures { Acts self.old self.new actor now (acts.Pull name) result }
+    {
+        if self.parts.holds(actor) {
+            return Answer::HandFull;
+        }
+        match self.names.get(name) {
+            Some(Standing::Queued(ticket)) if ticket.cluster == self.parts.home(actor) => {
+                self.parts.pull(actor, name, ticket, now);
+                self.names.set(name, Standing::Held(actor));
+                Answer::Yes
+            }
+            standing => Answer::NotQueued(place_at(standing)),
+        }
+    }
+
+    /// Notes that a thread that was got is in the hand.
+    fn note_held(&mut self, actor: u8, answer: Answer) {
+        if let Answer::Got(name) = answer {
+            self.names.set(name, Standing::Held(actor));
+        }
+    }
+}
