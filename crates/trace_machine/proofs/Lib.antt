@@ -7,4 +7,5 @@ pub mod Keeping
 pub mod Readings
 pub mod Setting
 pub mod Standing
+pub mod StandingFound
 pub mod Touching

@@ -74,7 +74,7 @@ stands_counted v y name (standings.Blocked slot) yard there =
 stands_counted v y name standings.Ended yard there = counted_from_any (λ n. n == name) y.ended there
 
 -- no more is counted at one place than anywhere
-within_all : (g : MachineState) (p : Place) (name : ℕ) → count_at g p name ≤ place_count g name
+pub within_all : (g : MachineState) (p : Place) (name : ℕ) → count_at g p name ≤ place_count g name
 within_all g (places.Queue c) name =
     elim (cases_lt c (length g.flats)) [
       | inl within ↦ omega (arith, get_or-le-sum_by (count_queued name) g.flats c (empty_flat 0) within)
