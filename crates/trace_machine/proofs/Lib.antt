@@ -1,3 +1,4 @@
+pub mod Asking
 pub mod InHands
 pub mod Readings
 pub mod Setting
