@@ -1,7 +1,4 @@
-pub mod ActsTo
-pub mod Found
-pub mod Frames
-pub mod Histories
+pub mod Asking
 pub mod InHands
 pub mod Keeping
 pub mod Readings

@@ -1,4 +1,4 @@
+pub mod Machines
+pub mod Making
 pub mod Parts
 pub mod Yards
-pub mod Machines
-pub mod Acting
