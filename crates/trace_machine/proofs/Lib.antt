@@ -4,8 +4,10 @@ pub mod Frames
 pub mod Histories
 pub mod InHands
 pub mod Keeping
+pub mod LiveNames
 pub mod Readings
 pub mod Setting
 pub mod Standing
 pub mod StandingFound
 pub mod Touching
+pub mod YardRoom
