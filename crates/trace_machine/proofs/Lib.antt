@@ -5,6 +5,7 @@ pub mod Histories
 pub mod InHands
 pub mod Keeping
 pub mod LiveNames
+pub mod QueueRoom
 pub mod Readings
 pub mod Setting
 pub mod Standing

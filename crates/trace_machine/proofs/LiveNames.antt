@@ -40,17 +40,17 @@ distinct (n ∷ ns) few = (
 )
 
 -- numbers that each stand once at most, and all in another list, are no more than it has
-no_more : (ns ms : List ℕ) → ((q : ℕ) → count_by (λ n. n == q) ns ≤ 1) → ((q : ℕ) → 1 ≤ count_by (λ n. n == q) ns → list_any (λ n. n == q) ms ≡ true)
+pub no_more : (ns ms : List ℕ) → ((q : ℕ) → count_by (λ n. n == q) ns ≤ 1) → ((q : ℕ) → 1 ≤ count_by (λ n. n == q) ns → list_any (λ n. n == q) ms ≡ true)
     → length ns ≤ length ms
 no_more ns ms few there =
     length-le_from_is_member {eq = eqb} nat_eq_equiv ns ms (distinct ns few)
     (λ q is. any_member q ms ∙ there q (counted_from_any (λ n. n == q) ns (sym (any_member q ns) ∙ is)))
 
 -- the names in the yard
-abbrev name_of : Sleeper → ℕ
+abbrev pub name_of : Sleeper → ℕ
 name_of w = w.facts.name
 
-abbrev names_away : Yard → List ℕ
+abbrev pub names_away : Yard → List ℕ
 names_away y = map name_of y.blocked ++ y.ended
 
 count_names : (q : ℕ) (ws : List Sleeper) → count_by (λ n. n == q) (map name_of ws) ≡ count_by (λ (w : Sleeper). w.facts.name == q) ws
@@ -63,7 +63,7 @@ count_names q (w ∷ ws) =
       sum_by-cons (λ (x : Sleeper). cond (x.facts.name == q) 1 0) w ws,
     )
 
-count_away : (q : ℕ) (y : Yard) → count_by (λ n. n == q) (names_away y) ≡ count_in_yard q y
+pub count_away : (q : ℕ) (y : Yard) → count_by (λ n. n == q) (names_away y) ≡ count_in_yard q y
 count_away q y = omega (arith, sum_by-append (λ n. cond (n == q) 1 0) (map name_of y.blocked) y.ended, count_names q y.blocked)
 
 -- a name that is counted was made
@@ -74,7 +74,7 @@ made_where_counted g name once some =
       | inr never ↦ absurd (omega (arith, once name, some, ap {B = ℕ} (λ b. cond b 1 0) never))
     ]
 
-few_counted : (g : MachineState) (name : ℕ) → EachNameOnce g → place_count g name ≤ 1
+pub few_counted : (g : MachineState) (name : ℕ) → EachNameOnce g → place_count g name ≤ 1
 few_counted g name once =
     elim (cases_Bool (list_any (λ n. n == name) g.yard.made)) [
       | inl made ↦ omega (arith, once name, ap {B = ℕ} (λ b. cond b 1 0) made)
@@ -91,7 +91,7 @@ away_within g once =
     omega (arith, few, length-append (map name_of y.blocked) y.ended, length-map y.blocked name_of)
 
 -- what a hand and the yard count is within what all places count
-hand_and_yard : (g : MachineState) (a name : ℕ) → count_held name (hand_at g a) + count_in_yard name g.yard ≤ place_count g name
+pub hand_and_yard : (g : MachineState) (a name : ℕ) → count_held name (hand_at g a) + count_in_yard name g.yard ≤ place_count g name
 hand_and_yard g a name =
     elim (cases_lt a (length g.hands)) [
       | inl within ↦ omega (arith, get_or-le-sum_by (count_held name) g.hands a no_hand within)
