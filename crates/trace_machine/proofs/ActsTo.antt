@@ -1,9 +1,11 @@
 -- Acts of a machine in code that are refused, and those that leave every name where it stood.
-use Rattle.std.proofs.Common.{◌≡◌, ◌≢◌, ℕ, ◌+◌, ◌<◌, ◌≤◌, ◌^◌, Bool, true, false, List, Option, Some, None, length, slice_set, refl, sym, ap, ◌∙◌, subst, inl, inr, arith}
+use Rattle.std.proofs.Common.{◌≡◌, ◌≢◌, ℕ, ◌+◌, ◌<◌, ◌≤◌, ◌^◌, ◌==◌, Bool, true, false, List, Option, Some, None, length, slice_set, refl, sym, ap, ◌∙◌, subst, inl, inr, arith}
 use Rattle.std.proofs.lemmas.Bool.{cases_eq, false≢true}
 use Rattle.sched_base.specs.declared.Act.{Act}
 use Rattle.sched_base.specs.declared.Answer.{Answer}
 use Rattle.sched_base.specs.declared.Facts.{Facts}
+use Rattle.link_arena.specs.Arena.{value_at}
+use Rattle.std.specs.List.{list_any}
 use Rattle.flat_policy.specs.Policy.Clusters.{NameStands}
 use Rattle.flat_policy.specs.Policy.Machine.{Hand, MachineState, Yard, first_refusal, hand_at, refusals_by}
 use Rattle.flat_policy.specs.Policy.Setup.{SetupParts, cluster_count}
@@ -86,3 +88,16 @@ quiet_acts old new y a now act told set means none does q yard steps =
       names = names_after old new y y (λ name. false) frame means.names (λ name is. absurd (false≢true is));
       steps = steps;
     }
+
+-- an act that moves no thread and leaves the names leaves every name where it stood
+pub quiet_from : (old new : MachineView) (y : Yard) (a now : ℕ) (act : Act) (told : Answer) (h : Hand) → Does old.parts new.parts a now act told
+    → (accepted_at old.parts y a now act).state.hands ≡ slice_set old.parts.hands a h → h.thread ≡ (hand_of old.parts a).thread → (accepted_at old.parts y a now act).thread ≡ None
+    → new.names ≡ old.names → IsQuiet old new a
+quiet_from old new y a now act told h does hands thread none names = record {
+  hand = h;
+  hands = sym (ap (λ (g : MachineState). g.hands) (does.leads y)) ∙ hands;
+  thread = thread;
+  queues = λ c slot arrival name stands. does.stands y c slot arrival name (subst (IsOtherThread name) (sym none) tt) stands;
+  names = names;
+  setup = does.keeps_setup;
+}

@@ -3,13 +3,13 @@ use Rattle.std.proofs.Common.{◌≡◌, ◌≢◌, ℕ, ◌+◌, ◌<◌, ◌�
 use Rattle.std.specs.List.{list_any}
 use Rattle.std.proofs.lemmas.Bool.{cases_Bool}
 use Rattle.sched_base.specs.declared.Facts.{Facts}
-use Rattle.link_arena.specs.Arena.{value_at}
+use Rattle.link_arena.specs.Arena.{live_count, value_at}
 use Rattle.flat_policy.specs.Policy.Clusters.{NameStands}
 use Rattle.flat_policy.specs.Policy.Machine.{Yard}
-use Rattle.flat_policy.specs.Policy.Setup.{actor_count, cluster_count}
+use Rattle.flat_policy.specs.Policy.Setup.{SetupParts, actor_count, cluster_count}
 use Rattle.trace_machine.specs.Machines.{HasYard, MachineView, StandsThere}
 use Rattle.trace_machine.specs.Parts.{cluster_at, hand_of}
-use Rattle.trace_machine.specs.Yards.{standing_of}
+use Rattle.trace_machine.specs.Yards.{YardView, standing_of}
 use Rattle.trace_machine.specs.declared.names.Standing.{Standing}
 use Rattle.trace_machine.specs.declared.names.Standing.TheVariants as standings
 use Rattle.trace_machine.specs.declared.yard.Resting.{Resting}
@@ -52,14 +52,14 @@ names_after old new y after moved f stood there name =
 -- a yard in code that stays goes on having the blocked threads of the policy's, where none of them moved
 pub yard_stays : (old new : MachineView) (y : Yard) (moved : ℕ → Bool) → Frame old new y y moved → new.yard ≡ old.yard → HasYard old y
     → ((slot : ℕ) (w : Resting) → value_at old.yard.sleepers slot ≡ Some w → moved w.thread.name ≡ false) → HasYard new y
-yard_stays old new y moved f same has apart =
-    let here : HasYard old y → HasYard (record old { names = new.names; parts = new.parts }) y =
-    λ h. record {
-      last = h.last;
-      live = h.live;
-      count = h.count;
-      blocked = h.blocked;
-      named = λ slot w is. f.table w.thread.name (apart slot w is) ∙ h.named slot w is;
-      room = subst (λ s. s.threads ≤ old.yard.sleepers.spare + _) (sym f.setup) h.room;
-    } in
-    subst (λ v. HasYard v y) (ap (λ yard. record { parts = new.parts; yard = yard; names = new.names; steps = old.steps }) (sym same)) (here has)
+yard_stays old new y moved f same has apart = record {
+  last = ap (λ (yard : YardView). yard.last) same ∙ has.last;
+  live = ap (λ (yard : YardView). yard.live) same ∙ has.live;
+  count = ap (λ (yard : YardView). live_count yard.sleepers) same ∙ has.count;
+  blocked = λ slot w is. has.blocked slot w (subst (λ (yard : YardView). value_at yard.sleepers slot ≡ Some w) same is);
+  named = λ slot w is.
+  let was = subst (λ (yard : YardView). value_at yard.sleepers slot ≡ Some w) same is in
+  f.table w.thread.name (apart slot w was) ∙ has.named slot w was;
+  room = subst (λ (s : SetupParts). s.threads ≤ new.yard.sleepers.spare + live_count new.yard.sleepers) (sym f.setup)
+      (subst (λ (yard : YardView). old.parts.setup.threads ≤ yard.sleepers.spare + live_count yard.sleepers) (sym same) has.room);
+}

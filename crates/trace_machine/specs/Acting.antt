@@ -3,8 +3,6 @@ use Rattle.std.specs.Prelude.{IsTrue, None, Option, Some, ℕ, ◌+◌, ◌<◌,
 use Rattle.sched_base.specs.Limits.{moment_limit}
 use Rattle.sched_base.specs.declared.Act.{Act}
 use Rattle.sched_base.specs.declared.Answer.{Answer}
-use Rattle.sched_base.specs.declared.Place.{Place}
-use Rattle.sched_base.specs.declared.Place.TheVariants as places
 use Rattle.sched_base.specs.declared.Spot.TheVariants as spots
 use Rattle.flat_policy.specs.Laws.Counts.{EachNameOnce, StaysWithin}
 use Rattle.flat_policy.specs.Laws.Places.{PlaceIsTheOne, PlaceIsWhereItStands}
@@ -14,8 +12,6 @@ use Rattle.flat_policy.specs.Policy.Setup.{SetupParts, home_of}
 use Rattle.trace_machine.specs.Machines.{HasYard, IsMachine, MachineView, MeansOver, StandsThere}
 use Rattle.trace_machine.specs.Parts.{AllServe, IsReady, cluster_at, hand_of, state_of}
 use Rattle.trace_machine.specs.Yards.{standing_of}
-use Rattle.trace_machine.specs.declared.names.Standing.{Standing}
-use Rattle.trace_machine.specs.declared.names.Standing.TheVariants as standings
 
 -- what an act at an effective moment comes to by its refusal, if it has one
 abbrev pub outcome_from : SetupParts → MachineState → ℕ → ℕ → Act → Option Answer → Outcome
@@ -53,14 +49,6 @@ pub record ActsTo (old new : MachineView) (y : Yard) (a now : ℕ) (act : Act) (
 -- so it is over every yard that the machine had
 abbrev pub Acts : MachineView → MachineView → ℕ → ℕ → Act → Answer → Type 0
 Acts old new a now act told = (y : Yard) → MeansOver old y → ActsTo old new y a now act told
-
--- the place that a standing names
-abbrev pub place_named : Option Standing → Place
-place_named None = places.Nowhere
-place_named (Some (standings.Queued t)) = places.Queue t.cluster
-place_named (Some (standings.Held a)) = places.Hand a
-place_named (Some (standings.Blocked slot)) = places.Blocked
-place_named (Some standings.Ended) = places.Ended
 
 -- what the policy's laws say of the state that a machine means, and of those that an act leads to: it is sound, each name stands once, and no more
 -- threads live than may

@@ -2,7 +2,7 @@
 
 ghost use Rattle.std.specs.Prelude.{◌≡◌, ◌<◌, ◌≤◌, ◌+◌, ◌^◌, IfOk, IsTrue, None, OnErr, OnOk, map, ℕ};
 ghost use Rattle.flat_policy.specs.Policy.Machine.{empty_machine};
-ghost use Rattle.trace_machine.specs.Acting.{place_named};
+ghost use Rattle.trace_machine.specs.Yards.{place_in};
 ghost use Rattle.trace_machine.specs.Machines.{IsMachine, Means};
 
 mod asking;
@@ -39,7 +39,7 @@ impl<K: Cluster> Model for Machine<K> {
 
 /// The place that a standing names.
 fn place_at(standing: Option<Standing>) -> Place
-    ensures { result ≡ place_named standing }
+    ensures { result ≡ place_in standing }
 {
     match standing {
         Some(Standing::Queued(ticket)) => Place::Queue(ticket.cluster),

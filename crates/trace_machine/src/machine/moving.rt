@@ -15,6 +15,7 @@ impl<K: Cluster> Machine<K> {
         requires { IsSet self.old actor now (acts.Enter c head) }
         ensures { Acts self.old self.new actor now (acts.Enter c head) result }
     {
+        self.stays();
         let Some(name) = self.parts.held_name(actor) else {
             return Answer::HandEmpty;
         };
@@ -31,6 +32,7 @@ impl<K: Cluster> Machine<K> {
         requires { IsSet self.old actor now acts.Select }
         ensures { Acts self.old self.new actor now acts.Select result }
     {
+        self.stays();
         if self.parts.holds(actor) {
             return Answer::HandFull;
         }
@@ -44,6 +46,7 @@ impl<K: Cluster> Machine<K> {
         requires { IsSet self.old actor now (acts.Offer from) }
         ensures { Acts self.old self.new actor now (acts.Offer from) result }
     {
+        self.stays();
         if self.parts.holds(actor) {
             return Answer::HandFull;
         }
@@ -60,6 +63,7 @@ impl<K: Cluster> Machine<K> {
         requires { IsSet self.old actor now (acts.Pull name) }
         ensures { Acts self.old self.new actor now (acts.Pull name) result }
     {
+        self.stays();
         if self.parts.holds(actor) {
             return Answer::HandFull;
         }

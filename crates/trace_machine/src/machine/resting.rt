@@ -26,6 +26,7 @@ impl<K: Cluster> Machine<K> {
         ensures done { OnOk result (λ answer. Acts self.old self.new actor now (acts.Make name group bucket base bound) answer) }
         ensures err { OnErr result (self.new ≡ self.old) }
     {
+        self.stays();
         if self.parts.holds(actor) {
             return Ok(Answer::HandFull);
         }
@@ -51,6 +52,7 @@ impl<K: Cluster> Machine<K> {
         requires { IsSet self.old actor now acts.Sleep }
         ensures { Acts self.old self.new actor now acts.Sleep result }
     {
+        self.stays();
         let Some(name) = self.parts.held_name(actor) else {
             return Answer::HandEmpty;
         };
@@ -65,6 +67,7 @@ impl<K: Cluster> Machine<K> {
         requires { IsSet self.old actor now (acts.Wake name) }
         ensures { Acts self.old self.new actor now (acts.Wake name) result }
     {
+        self.stays();
         if self.parts.holds(actor) {
             return Answer::HandFull;
         }
@@ -84,6 +87,7 @@ impl<K: Cluster> Machine<K> {
         requires { IsSet self.old actor now acts.End }
         ensures { Acts self.old self.new actor now acts.End result }
     {
+        self.stays();
         if !self.parts.holds(actor) {
             return Answer::HandEmpty;
         }
@@ -98,6 +102,7 @@ impl<K: Cluster> Machine<K> {
         requires { IsSet self.old actor now acts.Blocked }
         ensures { Acts self.old self.new actor now acts.Blocked result }
     {
+        self.stays();
         let count = self.yard.blocked();
         self.yard.touch(now);
         self.parts.keep(actor, now);

@@ -15,6 +15,7 @@ impl<K: Cluster> Machine<K> {
         requires { IsSet self.old actor now acts.Refresh }
         ensures { Acts self.old self.new actor now acts.Refresh result }
     {
+        self.stays();
         Answer::New(self.parts.refresh(actor, now))
     }
 
@@ -23,6 +24,7 @@ impl<K: Cluster> Machine<K> {
         requires { IsSet self.old actor now (acts.Off c) }
         ensures { Acts self.old self.new actor now (acts.Off c) result }
     {
+        self.stays();
         self.parts.turn(actor, c, false, now);
         Answer::Yes
     }
@@ -32,6 +34,7 @@ impl<K: Cluster> Machine<K> {
         requires { IsSet self.old actor now (acts.On c) }
         ensures { Acts self.old self.new actor now (acts.On c) result }
     {
+        self.stays();
         self.parts.turn(actor, c, true, now);
         Answer::Yes
     }
@@ -41,6 +44,7 @@ impl<K: Cluster> Machine<K> {
         requires { IsSet self.old actor now (acts.Look c) }
         ensures { Acts self.old self.new actor now (acts.Look c) result }
     {
+        self.stays();
         if !self.parts.holds(actor) {
             return Answer::HandEmpty;
         }
@@ -52,6 +56,7 @@ impl<K: Cluster> Machine<K> {
         requires { IsSet self.old actor now acts.Aim }
         ensures { Acts self.old self.new actor now acts.Aim result }
     {
+        self.stays();
         if !self.parts.holds(actor) {
             return Answer::HandEmpty;
         }
@@ -69,6 +74,7 @@ impl<K: Cluster> Machine<K> {
         requires { IsSet self.old actor now (acts.Ran us) }
         ensures { Acts self.old self.new actor now (acts.Ran us) result }
     {
+        self.stays();
         if !self.parts.holds(actor) {
             return Answer::HandEmpty;
         }
