@@ -1,8 +1,11 @@
 pub mod Asking
 pub mod InHands
 pub mod Keeping
+pub mod LiveNames
+pub mod QueueRoom
 pub mod Readings
 pub mod Setting
 pub mod Standing
 pub mod StandingFound
 pub mod Touching
+pub mod YardRoom

@@ -9,7 +9,9 @@ ghost use Rattle.trace_machine.specs.Machines.{IsMachine, Means, MeansOver, Step
 use super::Machine;
 use crate::Reply;
 use flat_policy::cluster::Cluster;
-use flat_policy::laws::{place_is_the_one, place_is_where_it_stands, runs_keep_counts, runs_stay_sound, runs_stay_within};
+use flat_policy::laws::{
+    place_is_the_one, place_is_where_it_stands, runs_keep_counts, runs_stay_sound, runs_stay_within,
+};
 use sched_base::{Act, Answer, Step};
 use std::alloc::{AllocError, Global};
 
