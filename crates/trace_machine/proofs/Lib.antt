@@ -1,4 +1,8 @@
+pub mod ActsTo
 pub mod Asking
+pub mod Found
+pub mod Frames
+pub mod Histories
 pub mod InHands
 pub mod Keeping
 pub mod LiveNames
