@@ -1,3 +1,4 @@
+pub mod Acting
 pub mod Machines
 pub mod Making
 pub mod Parts

@@ -1,4 +1,4 @@
-use Rattle.std.proofs.Common.{◌≡◌, ◌<◌, length, ap, arith, ◌∙◌}
+use Rattle.std.proofs.Common.{◌<◌, length, ap, arith, ◌∙◌}
 use Rattle.edge_matrix.specs.EdgeTables.{edges_of}
 use Rattle.flat_policy.specs.Policy.Setup.{SetupParts}
 use Rattle.trace_machine.specs.Parts.{PartsView}
