@@ -4,9 +4,7 @@ pub mod Found
 pub mod Frames
 pub mod Histories
 pub mod InHands
-pub mod Keeping
-pub mod LiveNames
-pub mod QueueRoom
+pub mod Making
 pub mod Readings
 pub mod Setting
 pub mod Standing

@@ -72,6 +72,7 @@ fn end_hands(hands: Vec<HeldHand>) {
 }
 
 /// A cluster for each number.
+#[tactic(auto, using(crate::proofs::Making::made_more))]
 fn made_clusters<K: Cluster>(alloc: Global, setup: &Setup) -> Result<Vec<K>, AllocError>
     ensures { IfOk result (λ made. AreNew setup.now (cluster_count setup.now) (map K.Cluster.view made.items)) }
 {
