@@ -1,3 +1,4 @@
 pub mod Parts
 pub mod Yards
 pub mod Machines
+pub mod Changes
