@@ -12,7 +12,7 @@ use Rattle.trace_machine.specs.Parts.{PartsView, cluster_at}
 pub at_element : {X : Type 0} (f : X → ClusterView) (old : PartsView) (xs : List X) (c : ℕ) (x : X)
     → old.clusters ≡ map f xs → c < length old.clusters → x ≡ get_or xs c x → cluster_at old c ≡ f x
 at_element f old xs c x clusters there is =
-    let within : c < length xs = omega (arith, ap (λ vs. length vs) clusters, length-map f xs, there)
+    let within : c < length xs = omega (arith, ap (λ vs. length vs) clusters, length-map xs f, there)
     in ap (λ vs. get_or vs c _) clusters ∙ get_or-map f xs c x _ within ∙ ap f (sym is)
 
 -- an element that changes is a cluster that changes
