@@ -6,14 +6,14 @@ use Rattle.std.proofs.lemmas.List.{get_or-map, length-map, map-set}
 use Rattle.flat_policy.specs.Laws.Kept.{RisesBy}
 use Rattle.flat_policy.specs.Policy.Clusters.{ClusterView, IsCluster, SameRoom}
 use Rattle.trace_machine.specs.Changes.{ChangesAt}
-use Rattle.trace_machine.specs.Parts.{PartsView, cluster_at}
+use Rattle.trace_machine.specs.Parts.{PartsView, cluster_at, no_cluster}
 
 -- a cluster by its number is the view of the element there
 pub at_element : {X : Type 0} (f : X → ClusterView) (old : PartsView) (xs : List X) (c : ℕ) (x : X)
     → old.clusters ≡ map f xs → c < length old.clusters → x ≡ get_or xs c x → cluster_at old c ≡ f x
 at_element f old xs c x clusters there is =
     let within : c < length xs = omega (arith, ap (λ vs. length vs) clusters, length-map xs f, there)
-    in ap (λ vs. get_or vs c _) clusters ∙ get_or-map f xs c x _ within ∙ ap f (sym is)
+    in ap (λ vs. get_or vs c (no_cluster old.setup)) clusters ∙ get_or-map f xs c x (no_cluster old.setup) within ∙ ap f (sym is)
 
 -- an element that changes is a cluster that changes
 pub changes_element : {X : Type 0} (f : X → ClusterView) (old new : PartsView) (xs : List X) (c : ℕ) (x y : X) (h : ClusterView → ClusterView) (arrivals turns : ℕ)
