@@ -1,2 +1,5 @@
 pub mod Elements
+pub mod InHands
+pub mod Readings
 pub mod Setting
+pub mod Touching

@@ -8,6 +8,7 @@ ghost use Rattle.trace_machine.specs.Parts.{Does, IsReady, cluster_at, hand_of};
 
 use super::Parts;
 use flat_policy::cluster::Cluster;
+use flat_policy::laws::calls_keep_standing;
 use sched_base::limits::MOMENT_LIMIT;
 use sched_base::{Act, Answer};
 
@@ -20,7 +21,10 @@ impl<K: Cluster> Parts<K> {
         ensures { Does self.old self.new actor now acts.Refresh (answers.New result) }
     {
         let home = self.home(actor);
-        let changed = self.clusters[home as usize].refresh(now);
+        calls_keep_standing();
+        let cluster = &mut self.clusters[home as usize];
+        cluster.keeps();
+        let changed = cluster.refresh(now);
         self.keep(actor, now);
         changed
     }
