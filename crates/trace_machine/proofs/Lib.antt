@@ -3,3 +3,4 @@ pub mod InHands
 pub mod Readings
 pub mod Setting
 pub mod Touching
+pub mod Moving

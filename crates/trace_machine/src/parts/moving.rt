@@ -18,6 +18,7 @@ ghost use Rattle.trace_machine.specs.Parts.{Does, IsQueuedAs, IsReady, Serves, c
 
 use super::Parts;
 use flat_policy::cluster::Cluster;
+use flat_policy::laws::calls_keep_standing;
 use sched_base::limits::{MOMENT_LIMIT, MOST_THREADS};
 use sched_base::{Act, Answer, Thread, Ticket};
 
@@ -35,6 +36,7 @@ impl<K: Cluster> Parts<K> {
         ensures cluster { result.cluster ≡ c }
         ensures stands { (t : Facts) → (hand_of self.old actor).thread ≡ Some t → NameStands (cluster_at self.new c) result.slot result.arrival t.name }
     {
+        calls_keep_standing();
         let thread = self.release(actor, now);
         self.enter_at(c, thread, head, now)
     }
@@ -48,6 +50,7 @@ impl<K: Cluster> Parts<K> {
         requires later { (cluster_at self.old (home_of self.old.setup actor)).flat.last ≤ now }
         ensures { Does self.old self.new actor now acts.Select result }
     {
+        calls_keep_standing();
         let home = self.home(actor);
         if !self.is_on(home) {
             self.touch_at(home, now);
@@ -68,6 +71,7 @@ impl<K: Cluster> Parts<K> {
         requires later { (cluster_at self.old from).flat.last ≤ now }
         ensures { Does self.old self.new actor now (acts.Offer from) result }
     {
+        calls_keep_standing();
         let home = self.home(actor);
         let offered = self.offer_at(from, home, now);
         self.take(actor, offered, now)
@@ -82,6 +86,7 @@ impl<K: Cluster> Parts<K> {
         requires later { (cluster_at self.old (home_of self.old.setup actor)).flat.last ≤ now }
         ensures { Does self.old self.new actor now (acts.Pull name) answers.Yes }
     {
+        calls_keep_standing();
         let home = self.home(actor);
         match self.pull_at(home, ticket, now) {
             Some(thread) => self.fill(actor, thread, now),
