@@ -1,6 +1,7 @@
+pub mod Asking
 pub mod Elements
 pub mod InHands
+pub mod Moving
 pub mod Readings
 pub mod Setting
 pub mod Touching
-pub mod Moving
