@@ -1,5 +1,6 @@
 pub mod Asking
 pub mod Elements
+pub mod Entering
 pub mod InHands
 pub mod Moving
 pub mod Readings

@@ -1,16 +1,19 @@
 -- Acts that move a thread between a hand and a queue.
-use Rattle.std.proofs.Common.{◌≡◌, ℕ, ◌+◌, ◌*◌, ◌<◌, ◌≤◌, ◌^◌, Bool, true, false, if◌then◌else◌, Contains, Option, Some, None, List, [], ◌∷◌, ◌==◌, length, max, slice_set, refl, sym, ap, ◌∙◌, subst, arith}
+use Rattle.std.proofs.Common.{◌≡◌, ℕ, suc, ◌+◌, ◌*◌, ◌<◌, ◌≤◌, ◌^◌, Bool, true, false, if◌then◌else◌, Contains, Option, Some, None, List, [], ◌∷◌, ◌==◌, find, length, max, slice_set, refl, sym, ap, ◌∙◌, subst, inl, inr, arith}
+use Rattle.std.proofs.lemmas.Bool.{cases_Bool, cond-false, cond-true}
+use Rattle.std.proofs.lemmas.Option.{none-some, same_Some}
 use Rattle.flat_policy.specs.Laws.Clusters.{CallsKeepStanding}
 use Rattle.flat_policy.specs.Laws.Kept.{RisesBy}
-use Rattle.flat_policy.specs.Policy.ClusterSteps.{Event, enter_event, facts_of, flat_after_offer, got, named_entry, offer_event, pull_event, select_event, touched}
+use Rattle.flat_policy.specs.Policy.ClusterSteps.{Event, facts_of, flat_after_offer, got, named_entry, offer_event, pull_event, select_event, touched}
 use Rattle.flat_policy.specs.Policy.Clusters.{ClusterView, HasNumbers, IsCluster, IsOther, NameStands, SameRoom, after_offer, after_pull, after_select, after_touch, entered_in, moment_at, offer_of, pick_of, standing, without_some}
-use Rattle.flat_policy.specs.Policy.Machine.{Hand, MachineState, Outcome, Yard, empty_hand, enter_outcome, enter_outcome_by, flat_at, kept_hand, pull_outcome, taking, taking_hand, with_flat, with_hand}
+use Rattle.flat_policy.specs.Policy.Machine.{Hand, MachineState, Outcome, Yard, filled_hand, flat_at, kept_hand, pull_outcome, taking, taking_hand, with_flat, with_hand}
 use Rattle.flat_policy.specs.Policy.Moves.{new_entry, pick, removed, selected, settled_thread}
 use Rattle.flat_policy.specs.Policy.Queue.{Flat, Queued}
 use Rattle.flat_policy.specs.Policy.Setup.{SetupParts, cluster_count, cluster_times, home_of}
 use Rattle.sched_base.specs.declared.Act.{Act}
 use Rattle.sched_base.specs.declared.Answer.{Answer}
 use Rattle.sched_base.specs.declared.Facts.{Facts}
+use Rattle.sched_base.specs.declared.Ticket.{Ticket}
 use Rattle.sched_base.specs.declared.Act.TheVariants as acts
 use Rattle.sched_base.specs.declared.Answer.TheVariants as answers
 use Rattle.trace_machine.specs.Changes.{ChangesAt}
@@ -56,7 +59,7 @@ goes_without p mid c e s changes = record {
 }
 
 -- a cluster's setup, number and effective moment in the place of those that they are
-in_place : {Z : Type 0} (f : SetupParts → ℕ → ℕ → Z) (setup : SetupParts) (c now : ℕ) (v : ClusterView)
+pub in_place : {Z : Type 0} (f : SetupParts → ℕ → ℕ → Z) (setup : SetupParts) (c now : ℕ) (v : ClusterView)
     → Serves setup (2 ^ 50) c v → v.flat.last ≤ now → f setup c now ≡ f v.setup v.number (moment_at v now)
 in_place f setup c now v is later =
     ap (λ (s : SetupParts). f s c now) (sym is.of_setup)
@@ -103,7 +106,7 @@ takes p new a now c act answer taken x there comes goes stand changes =
           stand slot arrival name (subst (λ (o : Outcome). IsOtherThread name o.thread) (comes y) other) stands;
     })
 
-there_of : (p : PartsView) (a c : ℕ) → IsReady p a → c < cluster_count p.setup → c < length p.clusters
+pub there_of : (p : PartsView) (a c : ℕ) → IsReady p a → c < cluster_count p.setup → c < length p.clusters
 there_of p a c ready below = subst (λ n. c < n) (sym ready.clusters) below
 
 -- selecting from the home
@@ -156,3 +159,37 @@ offers p mid new a now c to keeps ready home below later changes sets =
     (goes_without p mid c (offer_of v to) _ changes)
     (λ slot arrival name other stands. (keeps v changes.kept).offering to now slot arrival name (other_entry name (offer_of v to) other) stands)
     (hand_after p mid new c (after_offer v to now) a (λ s h. taking_hand s h (facts_of (offer_of v to)) now) changes.parts sets)
+
+-- what a find finds stands in the list
+found_stands : {X : Type 0} (q : X → Bool) (xs : List X) (x : X) → find q xs ≡ Some x → Contains xs x
+found_stands q [] x is = absurd (none-some x is)
+found_stands q (y ∷ ys) x is =
+    elim (cases_Bool (q y)) [
+      | inl e ↦ subst (λ z. Contains (y ∷ ys) z) (same_Some y x (sym (cond-true (q y) (Some y) (find q ys) e) ∙ is)) (0, omega arith, refl)
+      | inr e ↦ (let later = found_stands q ys x (sym (cond-false (q y) (Some y) (find q ys) e) ∙ is) in (suc later.0, omega (arith, later.1), later.2))
+    ]
+
+-- pulling an entry out of the home's queue
+pub pulls : (p mid new : PartsView) (a now c name : ℕ) (ticket : Ticket) (e : Queued) (t : Facts) → CallsKeepStanding → IsReady p a → c ≡ home_of p.setup a
+    → c < cluster_count p.setup → (cluster_at p (home_of p.setup a)).flat.last ≤ now
+    → standing (cluster_at p c) ticket.slot ticket.arrival ≡ Some e → named_entry (cluster_at p c).flat name ≡ Some e → t ≡ e.facts
+    → ChangesAt p mid c (after_pull (cluster_at p c) (standing (cluster_at p c) ticket.slot ticket.arrival) now) 0 1
+    → new ≡ rehanded mid a (filled_hand mid.setup t now)
+    → Does p new a now (acts.Pull name) answers.Yes
+pulls p mid new a now c name ticket e t keeps ready home below later stands named is changed sets =
+    let v = cluster_at p c in
+    let later_here : v.flat.last ≤ now = subst (λ k. (cluster_at p k).flat.last ≤ now) (sym home) later in
+    let changes : ChangesAt p mid c (after_pull v (Some e) now) 0 1 =
+      subst (λ (o : Option Queued). ChangesAt p mid c (after_pull v o now) 0 1) stands changed in
+    takes p new a now c (acts.Pull name) answers.Yes (Some e.facts) (after_pull v (Some e) now) (there_of p a c ready below)
+    (λ y. ap (λ k. pull_outcome p.setup (state_of p y) a (hand_of p a) k now (named_entry (flat_at (state_of p y) k) name)) (sym home)
+        ∙ ap (λ (s : Flat). pull_outcome p.setup (state_of p y) a (hand_of p a) c now (named_entry s name)) (flat_here p y c)
+        ∙ ap (λ (o : Option Queued). pull_outcome p.setup (state_of p y) a (hand_of p a) c now o) named
+        ∙ ap (λ (s : Flat). taking p.setup (state_of p y) a (hand_of p a) c now (pull_event e now s)) (flat_here p y c)
+        ∙ ap (λ m. taking p.setup (state_of p y) a (hand_of p a) c now (pull_event e m v.flat)) (sym (now_is_effective now v.flat.last later_here))
+        )
+    (goes_without p mid c (Some e) _ changes)
+    (λ slot arrival other_name other stand.
+        (keeps v changes.kept).pulling e now slot arrival other_name (found_stands (λ (q : Queued). q.facts.name == name) v.flat.entries e named) other stand)
+    (hand_after p mid new c (after_pull v (Some e) now) a (λ s h. filled_hand s e.facts now) changes.parts
+        (sets ∙ ap (λ (u : Facts). rehanded mid a (filled_hand mid.setup u now)) is))
