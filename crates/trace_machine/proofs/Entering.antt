@@ -1,13 +1,11 @@
 -- A hand's thread enters a queue.
-use Rattle.std.proofs.Common.{◌≡◌, ℕ, ◌+◌, ◌<◌, ◌≤◌, ◌^◌, Bool, true, false, Contains, IsTrue, Option, Some, None, length, not, refl, sym, ap, ◌∙◌, subst, arith}
-use Rattle.std.proofs.lemmas.Bool.{not-false}
+use Rattle.std.proofs.Common.{◌≡◌, ℕ, ◌+◌, ◌<◌, ◌≤◌, ◌^◌, Bool, Contains, Option, Some, None, length, refl, sym, ap, ◌∙◌, subst, arith}
 use Rattle.std.specs.Prelude.{slice_set}
 use Rattle.flat_policy.specs.Laws.Clusters.{CallsKeepStanding}
 use Rattle.flat_policy.specs.Laws.Kept.{RisesBy}
-use Rattle.flat_policy.specs.Policy.Aim.{MayEnter, may_enter}
 use Rattle.flat_policy.specs.Policy.ClusterSteps.{Event, enter_event}
 use Rattle.flat_policy.specs.Policy.Clusters.{ClusterView, IsCluster, NameStands, SameRoom, entered_in, moment_at}
-use Rattle.flat_policy.specs.Policy.Machine.{Hand, MachineState, Outcome, Yard, empty_hand, enter_outcome, enter_outcome_by, flat_at, not_allowed, with_flat, with_hand}
+use Rattle.flat_policy.specs.Policy.Machine.{Hand, MachineState, Outcome, Yard, empty_hand, enter_outcome, enter_outcome_by, flat_at, with_flat, with_hand}
 use Rattle.flat_policy.specs.Policy.Moves.{new_entry, settled_thread}
 use Rattle.flat_policy.specs.Policy.Queue.{Flat}
 use Rattle.flat_policy.specs.Policy.Setup.{SetupParts, cluster_count}
@@ -21,21 +19,17 @@ use Rattle.trace_machine.specs.Parts.{Does, IsReady, PartsView, Serves, accepted
 use Rattle.trace_machine.proofs.Moving.{in_place, there_of}
 use Rattle.trace_machine.proofs.Setting.{ActsAt, GoesOn, changed, cluster_changed, does_at, flat_here, rehanded, rises_less}
 
--- the hand's thread fits the cluster's setup, and may enter it
-pub fits_there : (p : PartsView) (a c : ℕ) (t : Facts) → IsReady p a → c < cluster_count p.setup → (hand_of p a).thread ≡ Some t
-    → ThreadFits (cluster_at p c).setup t
-fits_there p a c t ready below held = subst (λ (s : SetupParts). ThreadFits s t) (sym (ready.serve c below).of_setup) (ready.hand.thread t held)
+-- the hand's thread fits the setup of a cluster, also once the hand is empty
+pub fits_there : (p mid : PartsView) (a c now : ℕ) (t : Facts) → IsReady p a → c < cluster_count p.setup → (hand_of p a).thread ≡ Some t
+    → mid ≡ rehanded p a (empty_hand p.setup now) → ThreadFits (cluster_at mid c).setup t
+fits_there p mid a c now t ready below held released =
+    subst (λ (q : PartsView). ThreadFits (cluster_at q c).setup t) (sym released)
+    (subst (λ (s : SetupParts). ThreadFits s t) (sym (ready.serve c below).of_setup) (ready.hand.thread t held))
 
-pub may_enter_there : (p : PartsView) (a c : ℕ) (t : Facts) → IsReady p a → c < cluster_count p.setup → (hand_of p a).thread ≡ Some t
-    → (not_allowed p.setup (hand_of p a).thread c).holds ≡ false → MayEnter (cluster_at p c).setup t (cluster_at p c).number
-may_enter_there p a c t ready below held allowed =
-    let may : may_enter p.setup t c ≡ true = not-false (may_enter p.setup t c) (ap (λ (o : Option Facts). (not_allowed p.setup o c).holds) (sym held) ∙ allowed) in
-    subst (λ (s : SetupParts). MayEnter s t (cluster_at p c).number) (sym (ready.serve c below).of_setup)
-    (subst (λ k. MayEnter p.setup t k) (sym (ready.serve c below).number) (subst IsTrue (sym may) tt))
-
--- there is spare room where fewer are queued than may live
-pub has_spare : (setup : SetupParts) (n c : ℕ) (v : ClusterView) → Serves setup n c v → length v.flat.entries < setup.threads → 1 ≤ v.spare
-has_spare setup n c v is room = omega (arith, is.room, room)
+-- its number is still there
+pub number_there : (p mid : PartsView) (a c now : ℕ) → IsReady p a → c < cluster_count p.setup
+    → mid ≡ rehanded p a (empty_hand p.setup now) → (cluster_at mid c).number ≡ c
+number_there p mid a c now ready below released = ap (λ (q : PartsView). (cluster_at q c).number) released ∙ (ready.serve c below).number
 
 goes_entered : (v x : ClusterView) (t : Facts) (head : Bool) (now slot : ℕ) (p mid : PartsView) (c : ℕ) → v ≡ cluster_at p c → x ≡ entered_in v t head now slot
     → ChangesAt p mid c x 1 1 → GoesOn v x
