@@ -1,10 +1,9 @@
 pub mod ActsTo
 pub mod Asking
-pub mod Found
-pub mod Frames
-pub mod Histories
+pub mod Elements
+pub mod Entering
 pub mod InHands
-pub mod Making
+pub mod Moving
 pub mod Readings
 pub mod Setting
 pub mod Standing
