@@ -11,4 +11,5 @@ pub mod Setting
 pub mod Standing
 pub mod StandingFound
 pub mod Touching
+pub mod YardMoves
 pub mod YardRoom
