@@ -11,5 +11,6 @@ pub mod Setting
 pub mod Standing
 pub mod StandingFound
 pub mod Touching
+pub mod YardActs
 pub mod YardMoves
 pub mod YardRoom
