@@ -8,6 +8,7 @@ pub mod LiveNames
 pub mod QueueRoom
 pub mod Readings
 pub mod Setting
+pub mod SleepActs
 pub mod Standing
 pub mod StandingFound
 pub mod Touching
