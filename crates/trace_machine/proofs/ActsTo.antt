@@ -1,17 +1,15 @@
 -- Acts of a machine in code that are refused, and those that leave every name where it stood.
-use Rattle.std.proofs.Common.{◌≡◌, ◌≢◌, ℕ, ◌+◌, ◌<◌, ◌≤◌, ◌^◌, ◌==◌, Bool, true, false, List, Option, Some, None, length, slice_set, refl, sym, ap, ◌∙◌, subst, inl, inr, arith}
+use Rattle.std.proofs.Common.{◌≡◌, ℕ, ◌+◌, ◌<◌, ◌==◌, false, Option, Some, None, length, slice_set, refl, sym, ap, ◌∙◌, subst, inl, inr, arith}
 use Rattle.std.proofs.lemmas.Bool.{cases_eq, false≢true}
 use Rattle.sched_base.specs.declared.Act.{Act}
 use Rattle.sched_base.specs.declared.Answer.{Answer}
-use Rattle.sched_base.specs.declared.Facts.{Facts}
 use Rattle.link_arena.specs.Arena.{value_at}
 use Rattle.std.specs.List.{list_any}
 use Rattle.flat_policy.specs.Policy.Clusters.{NameStands}
-use Rattle.flat_policy.specs.Policy.Machine.{Hand, MachineState, Yard, first_refusal, hand_at, refusals_by}
-use Rattle.flat_policy.specs.Policy.Setup.{SetupParts, cluster_count}
+use Rattle.flat_policy.specs.Policy.Machine.{Hand, MachineState, Yard, first_refusal, refusals_by}
 use Rattle.trace_machine.specs.Acting.{ActsTo, IsSet, outcome_at, outcome_from}
-use Rattle.trace_machine.specs.Machines.{HasYard, MachineView, MeansOver, StandsThere}
-use Rattle.trace_machine.specs.Parts.{AllServe, Does, IsOtherThread, PartsView, Serves, accepted_at, cluster_at, hand_of, state_of}
+use Rattle.trace_machine.specs.Machines.{MachineView, MeansOver}
+use Rattle.trace_machine.specs.Parts.{Does, IsOtherThread, PartsView, accepted_at, cluster_at, hand_of, state_of}
 use Rattle.trace_machine.specs.Yards.{standing_of}
 use Rattle.trace_machine.proofs.Frames.{Frame, names_after, yard_stays}
 use Rattle.trace_machine.proofs.Setting.{hand_changed, hand_other, rehanded, serves_longer}

@@ -9,7 +9,7 @@ use Rattle.sched_base.specs.declared.Spot.{Spot}
 use Rattle.sched_base.specs.declared.Spot.TheVariants as spots
 use Rattle.sched_base.specs.declared.Step.{Step}
 use Rattle.flat_policy.specs.Laws.Sound.{Sound}
-use Rattle.flat_policy.specs.Policy.Machine.{GRun, Hand, MachineState, Outcome, RunsFrom, accepted_by, effective_moment, empty_machine, fits_act, fits_step, flat_at, hand_at, last_at, no_hand, numbers_fit, outcome, outcome_by, refusal, reply, spot_of, state_after}
+use Rattle.flat_policy.specs.Policy.Machine.{GRun, Hand, MachineState, Outcome, RunsFrom, accepted_by, effective_moment, empty_machine, fits_act, fits_step, hand_at, last_at, no_hand, numbers_fit, outcome, outcome_by, refusal, reply, spot_of, state_after}
 use Rattle.flat_policy.specs.Policy.Queue.{Flat, empty_flat}
 use Rattle.flat_policy.specs.Policy.Setup.{SetupParts, actor_count, cluster_count}
 

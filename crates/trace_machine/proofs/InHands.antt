@@ -1,5 +1,5 @@
 -- What happens at a hand alone.
-use Rattle.std.proofs.Common.{◌≡◌, ℕ, ◌<◌, List, Option, Some, length, get_or, slice_set, refl, sym, ap, ◌∙◌}
+use Rattle.std.proofs.Common.{◌≡◌, ℕ, ◌<◌, List, Option, Some, length, get_or, slice_set, sym, ap, ◌∙◌}
 use Rattle.sched_base.specs.Facts.{charged}
 use Rattle.sched_base.specs.declared.Facts.{Facts}
 use Rattle.sched_base.specs.declared.Act.TheVariants as acts
@@ -9,7 +9,7 @@ use Rattle.flat_policy.specs.Policy.Aim.{Look}
 use Rattle.flat_policy.specs.Policy.Clusters.{ClusterView}
 use Rattle.flat_policy.specs.Policy.Machine.{Hand, Outcome, Yard, kept_hand, no_looks, ran_outcome, ran_outcome_by}
 use Rattle.flat_policy.specs.Policy.Setup.{SetupParts, home_of, rate_of}
-use Rattle.trace_machine.specs.Parts.{Does, PartsView, accepted_at, hand_in, hand_of, state_of}
+use Rattle.trace_machine.specs.Parts.{Does, PartsView, accepted_at, hand_of, state_of}
 use Rattle.trace_machine.specs.declared.hand.HeldHand.{HeldHand}
 use Rattle.trace_machine.proofs.Readings.{hand_read, hand_written, parts_in}
 use Rattle.trace_machine.proofs.Setting.{does_in_hand, rehanded}

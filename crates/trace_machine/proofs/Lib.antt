@@ -1,10 +1,15 @@
 pub mod ActsTo
+pub mod Asking
+pub mod Elements
+pub mod Entering
 pub mod Found
 pub mod Frames
 pub mod Histories
 pub mod InHands
 pub mod Keeping
 pub mod LiveNames
+pub mod Making
+pub mod Moving
 pub mod QueueRoom
 pub mod Readings
 pub mod Setting

@@ -1,12 +1,12 @@
 -- Acts at a cluster that move no thread.
-use Rattle.std.proofs.Common.{◌≡◌, ℕ, ◌+◌, ◌<◌, ◌≤◌, Bool, true, false, if◌then◌else◌, ◌^◌, cond, Option, Some, None, IsSome, List, [], ◌∷◌, ◌==◌, length, map, max, fold, get_or, slice_set, refl, sym, ap, ◌∙◌, subst, arith}
+use Rattle.std.proofs.Common.{◌≡◌, ℕ, ◌<◌, ◌≤◌, Bool, true, false, if◌then◌else◌, ◌^◌, Option, Some, None, IsSome, List, [], ◌∷◌, ◌==◌, length, fold, get_or, slice_set, refl, sym, ap, ◌∙◌, subst, arith}
 use Rattle.std.proofs.lemmas.Bool.{cond_both, false≢true}
 use Rattle.std.proofs.lemmas.List.{length-map}
 use Rattle.flat_policy.specs.Laws.Clusters.{CallsKeepStanding}
 use Rattle.flat_policy.specs.Laws.Kept.{RisesBy}
 use Rattle.flat_policy.specs.Policy.Aim.{Look, load}
-use Rattle.flat_policy.specs.Policy.ClusterSteps.{look_event, power_event, refresh_event, touched}
-use Rattle.flat_policy.specs.Policy.Clusters.{ClusterView, IsCluster, NameStands, SameRoom, after_refresh, after_touch, after_turn, moment_at, with_queue}
+use Rattle.flat_policy.specs.Policy.ClusterSteps.{look_event, power_event, touched}
+use Rattle.flat_policy.specs.Policy.Clusters.{ClusterView, IsCluster, NameStands, after_refresh, after_touch, after_turn, moment_at, with_queue}
 use Rattle.flat_policy.specs.Policy.Machine.{Hand, Outcome, Yard, flat_at, kept_hand, leaving_hand, look_outcome, look_outcome_by, look_told, looked_hand, with_flat, with_hand}
 use Rattle.flat_policy.specs.Policy.Moves.{with_next_turn}
 use Rattle.flat_policy.specs.Policy.Precedence.{clutch_priority}
@@ -22,7 +22,7 @@ use Rattle.migration.specs.Looks.{looks_among}
 use Rattle.trace_machine.specs.declared.hand.HeldHand.{HeldHand}
 use Rattle.trace_machine.proofs.Readings.{both_written, hand_read, parts_in}
 use Rattle.trace_machine.specs.Parts.{Does, IsReady, PartsView, Serves, accepted_at, cluster_at, hand_of, state_of}
-use Rattle.trace_machine.proofs.Setting.{ActsAt, GoesOn, changed, does_at, flat_here, now_is_effective, rises_less, rises_none}
+use Rattle.trace_machine.proofs.Setting.{GoesOn, changed, does_at, flat_here, now_is_effective, rises_less, rises_none}
 
 turns_keep_length : (before s : Flat) (ks : List Clutch) → length (fold (turn_on_refresh before) s ks).entries ≡ length s.entries
 turns_keep_length before s [] = refl

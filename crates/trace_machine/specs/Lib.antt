@@ -1,4 +1,6 @@
+pub mod Acting
+pub mod Changes
+pub mod Machines
+pub mod Making
 pub mod Parts
 pub mod Yards
-pub mod Machines
-pub mod Acting

@@ -1,23 +1,20 @@
 -- What a machine in code means: a state of the policy's machine that some history led to.
 use Rattle.std.specs.List.{list_any}
-use Rattle.std.specs.Prelude.{IsTrue, List, None, Option, Some, false, length, true, ℕ, ◌==◌, ◌+◌, ◌<◌, ◌≡◌, ◌≤◌}
+use Rattle.std.specs.Prelude.{List, None, Option, Some, false, length, true, ℕ, ◌==◌, ◌+◌, ◌<◌, ◌≡◌, ◌≤◌}
 use Rattle.sched_base.specs.declared.Entry.{Entry}
 use Rattle.sched_base.specs.declared.Facts.{Facts}
-use Rattle.sched_base.specs.declared.Place.{Place}
-use Rattle.sched_base.specs.declared.Place.TheVariants as places
 use Rattle.sched_base.specs.declared.Step.{Step}
 use Rattle.link_arena.specs.Arena.{live_count, value_at}
 use Rattle.flat_policy.specs.Policy.BuiltSetups.{IsSetup}
 use Rattle.flat_policy.specs.Policy.Clusters.{NameStands}
 use Rattle.flat_policy.specs.Policy.Machine.{GRun, MachineState, Yard, live_count as live_of, reply, state_after}
-use Rattle.flat_policy.specs.Policy.Setup.{SetupParts, actor_count, cluster_count}
+use Rattle.flat_policy.specs.Policy.Setup.{actor_count, cluster_count}
 use Rattle.trace_machine.specs.Parts.{AllServe, PartsView, cluster_at, hand_of, state_of}
 use Rattle.trace_machine.specs.Yards.{YardView, sleeper_in, standing_of}
 use Rattle.trace_machine.specs.declared.Reply.{Reply}
 use Rattle.trace_machine.specs.declared.names.Standing.{Standing}
 use Rattle.trace_machine.specs.declared.names.Standing.TheVariants as standings
 use Rattle.trace_machine.specs.declared.yard.Resting.{Resting}
-use Rattle.link_arena.specs.Arena.{Arena}
 use Rattle.std.specs.Prelude.{Contains}
 
 -- a machine in code: its clusters and hands, its yard, where each name stands, and how many steps it took

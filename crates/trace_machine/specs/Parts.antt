@@ -1,5 +1,5 @@
 -- The clusters and the hands of a machine in code, and when an act at them does what the policy says.
-use Rattle.std.specs.Prelude.{IsSome, List, None, Option, Some, [], length, map, slice_index_or, ℕ, ◌*◌, ◌+◌, ◌<◌, ◌≡◌, ◌≢◌, ◌≤◌, ◌^◌}
+use Rattle.std.specs.Prelude.{List, None, Option, Some, [], length, map, slice_index_or, ℕ, ◌*◌, ◌+◌, ◌<◌, ◌≡◌, ◌≢◌, ◌≤◌, ◌^◌}
 use Rattle.sched_base.specs.declared.Act.{Act}
 use Rattle.sched_base.specs.declared.Answer.{Answer}
 use Rattle.sched_base.specs.declared.Facts.{Facts}

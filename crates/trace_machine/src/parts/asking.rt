@@ -9,6 +9,7 @@ ghost use Rattle.trace_machine.specs.Parts.{IsReady, cluster_at, hand_of};
 
 use super::Parts;
 use flat_policy::cluster::Cluster;
+use flat_policy::laws::fitting_prefers_among;
 use flat_policy::setup::Setup;
 use migration::LookFirst;
 use sched_base::Facts;
@@ -82,6 +83,7 @@ impl<K: Cluster> Parts<K> {
         requires cluster { c < cluster_count self.now.setup }
         ensures { result ≡ (not_allowed self.now.setup (hand_of self.now actor).thread c).holds }
     {
+        fitting_prefers_among();
         match &self.hands[actor as usize].thread {
             Some(thread) => !self.edges.may_enter(&thread.facts(), c),
             None => false,
@@ -94,6 +96,7 @@ impl<K: Cluster> Parts<K> {
         requires held { IsSome (hand_of self.now actor).thread }
         ensures { (t : Facts) → (hand_of self.now actor).thread ≡ Some t → IsAim self.now.setup (hand_of self.now actor).looks t result }
     {
+        fitting_prefers_among();
         let hand = &self.hands[actor as usize];
         match &hand.thread {
             Some(thread) => hand.looks.aim(&self.edges, &thread.facts()),

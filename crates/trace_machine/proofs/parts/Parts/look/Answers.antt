@@ -1,4 +1,4 @@
-use Rattle.std.proofs.Common.{◌≡◌, ◌<◌, length, ap, sym, subst, refl, arith, ◌∙◌}
+use Rattle.std.proofs.Common.{◌<◌, length, ap, sym, subst, refl, arith, ◌∙◌}
 use Rattle.flat_policy.specs.Policy.Aim.{load}
 use Rattle.flat_policy.specs.Policy.Machine.{Hand}
 use Rattle.flat_policy.specs.Policy.Setup.{SetupParts, cluster_count, cluster_times, cpus_of, times_for}

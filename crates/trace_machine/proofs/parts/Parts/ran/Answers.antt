@@ -1,6 +1,6 @@
-use Rattle.std.proofs.Common.{◌≡◌, ◌<◌, ap, length, arith, ◌∙◌}
+use Rattle.std.proofs.Common.{◌<◌, ap, length, arith, ◌∙◌}
 use Rattle.flat_policy.specs.Policy.Machine.{Hand}
-use Rattle.flat_policy.specs.Policy.Setup.{SetupParts, home_of, rate_of}
+use Rattle.flat_policy.specs.Policy.Setup.{home_of, rate_of}
 use Rattle.sched_base.specs.declared.Facts.{Facts}
 use Rattle.trace_machine.specs.Parts.{PartsView}
 use Rattle.trace_machine.proofs.InHands.{hand_ran, runs}
