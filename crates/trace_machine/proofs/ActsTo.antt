@@ -58,7 +58,7 @@ pub record IsQuiet (old new : MachineView) (a : ℕ) : Type 0 where
   pub names : new.names ≡ old.names
   pub setup : new.parts.setup ≡ old.parts.setup
 
-quiet_frame : (old new : MachineView) (y after : Yard) (a : ℕ) → IsQuiet old new a → a < length old.parts.hands → new.yard.sleepers ≡ old.yard.sleepers
+pub quiet_frame : (old new : MachineView) (y after : Yard) (a : ℕ) → IsQuiet old new a → a < length old.parts.hands → new.yard.sleepers ≡ old.yard.sleepers
     → after.ended ≡ y.ended → after.made ≡ y.made → Frame old new y after (λ name. false)
 quiet_frame old new y after a q lt sleepers ended made = record {
   setup = q.setup;

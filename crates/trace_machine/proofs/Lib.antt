@@ -14,7 +14,10 @@ pub mod Moving
 pub mod QueueRoom
 pub mod Readings
 pub mod Setting
+pub mod SleepActs
 pub mod Standing
 pub mod StandingFound
 pub mod Touching
+pub mod YardActs
+pub mod YardMoves
 pub mod YardRoom
