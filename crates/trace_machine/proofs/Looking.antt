@@ -55,10 +55,10 @@ renamed_not p q a h t u is held new name lt k s there =
     let moved : (hand_of q k).thread ≡ (hand_of (rehanded p a h) k).thread = ap (λ hs. (hand_of (record p { hands = hs }) k).thread) is in
     elim (cases_eq k a) [
       | inl e ↦ (
-          u,
-          moved ∙ (subst (λ i. (hand_of (rehanded p a h) i).thread ≡ Some u) (sym e) (ap (λ (x : Hand). x.thread) (hand_changed p a h lt) ∙ new)),
-          name ∙ ap (λ (f : Facts). f.name) (same_Some t s (sym held ∙ (ap (λ i. (hand_of p i).thread) (sym e) ∙ there))),
-        )
+        u,
+        moved ∙ (subst (λ i. (hand_of (rehanded p a h) i).thread ≡ Some u) (sym e) (ap (λ (x : Hand). x.thread) (hand_changed p a h lt) ∙ new)),
+        name ∙ ap (λ (f : Facts). f.name) (same_Some t s (sym held ∙ (ap (λ i. (hand_of p i).thread) (sym e) ∙ there))),
+      )
       | inr differs ↦ (s, moved ∙ (ap (λ (x : Hand). x.thread) (hand_other p a h k differs) ∙ there), refl)
     ]
 
@@ -127,7 +127,7 @@ aim_acts old new y a now to set means full aims parts names yard steps =
     let h : Hand = hand_of old.parts a in
     let t = thread_of h.thread full in
     let goes_on = ap (λ o. first_refusal (refuse (is_none o) answers.HandEmpty ∷ look_first setup h o ∷ [])) t.1
-        ∙ ap (λ n. first_refusal (look_first_by n ∷ [])) (sym (aims t.0 t.1).look_first) in
+    ∙ ap (λ n. first_refusal (look_first_by n ∷ [])) (sym (aims t.0 t.1).look_first) in
     let does : Does old.parts new.parts a now acts.Aim (answers.To to) =
     does_in_hand old.parts new.parts a (kept_hand h now) now acts.Aim (answers.To to) parts
     (λ z. ap (λ o. (aim_outcome setup (state_of old.parts z) a h now o).answer) t.1 ∙ ap aim_answer (sym (aims t.0 t.1).aim))

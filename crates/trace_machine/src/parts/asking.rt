@@ -50,14 +50,6 @@ impl<K: Cluster> Parts<K> {
         }
     }
 
-    /// Whether the hand holds a thread.
-    pub fn holds(&self, actor: u8) -> bool
-        requires { actor < length self.now.hands }
-        ensures { result ≡ is_some (hand_of self.now actor).thread }
-    {
-        self.hands[actor as usize].thread.is_some()
-    }
-
     /// The name of the hand's thread.
     pub fn held_name(&self, actor: u8) -> Option<u32>
         requires { actor < length self.now.hands }

@@ -21,7 +21,7 @@ returns-in-Ok g c y means =
     aim_acts v new y a c.args.now c.in-Ok.c c.requires means
     (subst (λ (p : PartsView). is_some (hand_of p a).thread ≡ true) parts held)
     (λ t is. subst (IsAim v.parts.setup (hand_of v.parts a).looks t) c.in-Ok.is
-      (subst (λ (p : PartsView). (t : Facts) → (hand_of p a).thread ≡ Some t → IsAim p.setup (hand_of p a).looks t c.aim.result) parts c.aim.ensures t is))
+    (subst (λ (p : PartsView). (t : Facts) → (hand_of p a).thread ≡ Some t → IsAim p.setup (hand_of p a).looks t c.aim.result) parts c.aim.ensures t is))
     (c.keep.ensures ∙ ap (λ (p : PartsView). rehanded p a (kept_hand (hand_of p a) c.args.now)) parts)
     (ap (λ (w : MachineView). w.names) c.self.view_is) (ap (λ (w : MachineView). w.yard) c.self.view_is) (ap (λ (w : MachineView). w.steps) c.self.view_is)
 
@@ -35,4 +35,4 @@ returns-in-Err g c y means =
     aim_lacks v y a c.args.now c.in-Err.first means
     (subst (λ (p : PartsView). is_some (hand_of p a).thread ≡ true) parts held)
     (λ t is. subst (IsAim v.parts.setup (hand_of v.parts a).looks t) c.in-Err.is
-      (subst (λ (p : PartsView). (t : Facts) → (hand_of p a).thread ≡ Some t → IsAim p.setup (hand_of p a).looks t c.aim.result) parts c.aim.ensures t is))
+    (subst (λ (p : PartsView). (t : Facts) → (hand_of p a).thread ≡ Some t → IsAim p.setup (hand_of p a).looks t c.aim.result) parts c.aim.ensures t is))
