@@ -1,7 +1,7 @@
 -- Acts in the yard: one hand, the yard and one name change.
 use Rattle.std.proofs.Common.{◌≡◌, ◌≢◌, ℕ, ◌==◌, ◌||◌, ◌+◌, ◌≤◌, ◌<◌, Bool, true, false, cond, Contains, List, [], ◌∷◌, ◌++◌, Option, Some, None, is_none, is_some, length, refl, sym, ap, ◌∙◌, subst, inl, inr, arith, eq-eqb}
 use Rattle.std.specs.List.{list_any}
-use Rattle.std.proofs.lemmas.Bool.{cases_Bool, cases_eq, cond-false, cond-true, eqb-false, eqb-true, ne_eqb, or_from}
+use Rattle.std.proofs.lemmas.Bool.{cases_Bool, cases_eq, cond-false, cond-true, eqb-false, eqb-true, false≢true, ne_eqb, or_from}
 use Rattle.std.proofs.lemmas.List.Folds.{list_any-append}
 use Rattle.link_arena.specs.Arena.{live_count, value_at}
 use Rattle.sched_base.specs.declared.Act.{Act}
@@ -20,6 +20,11 @@ use Rattle.trace_machine.specs.Yards.{sleeper_in, standing_of}
 use Rattle.trace_machine.proofs.ActsTo.{accepted_is, refused_by}
 use Rattle.trace_machine.proofs.Frames.{Frame, names_after}
 use Rattle.trace_machine.proofs.Setting.{hand_changed, hand_other, rehanded, serves_longer}
+
+-- a hand that does not hold a thread is empty
+pub no_thread : (o : Option Facts) → is_some o ≡ false → o ≡ None
+no_thread None is = refl
+no_thread (Some t) is = absurd (false≢true (sym is))
 
 -- the table of names with another standing of one name
 abbrev pub IsNoted : MachineView → MachineView → ℕ → Standing → Type 0

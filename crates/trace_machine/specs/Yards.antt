@@ -32,3 +32,11 @@ place_in (Some (standings.Queued t)) = places.Queue t.cluster
 place_in (Some (standings.Held a)) = places.Hand a
 place_in (Some (standings.Blocked slot)) = places.Blocked
 place_in (Some standings.Ended) = places.Ended
+
+-- the slot that a standing names in the yard
+abbrev pub slot_in : Option Standing → Option ℕ
+slot_in None = None
+slot_in (Some (standings.Queued t)) = None
+slot_in (Some (standings.Held a)) = None
+slot_in (Some (standings.Blocked slot)) = Some slot
+slot_in (Some standings.Ended) = None

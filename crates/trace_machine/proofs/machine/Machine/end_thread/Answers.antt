@@ -1,10 +1,11 @@
-use Rattle.std.proofs.Common.{◌≡◌, ℕ, ap, refl, sym, subst, ◌<◌, ◌^◌, ◌∙◌, Some, None}
+use Rattle.std.proofs.Common.{◌≡◌, ap, refl, sym, subst, true, is_some, ◌<◌, ◌∙◌}
 use Rattle.sched_base.specs.declared.Act.TheVariants as acts
 use Rattle.sched_base.specs.declared.Answer.TheVariants as answers
 use Rattle.trace_machine.specs.Acting.{ActsTo, IsSet, KeepsOn}
 use Rattle.trace_machine.specs.Machines.{MachineView, MeansOver}
 use Rattle.sched_base.specs.declared.Facts.{Facts}
 use Rattle.trace_machine.specs.Parts.{hand_of}
+use Rattle.trace_machine.specs.Yards.{standing_of}
 use Rattle.trace_machine.specs.declared.names.Standing.TheVariants as standings
 use Rattle.trace_machine.proofs.YardActs.{end_acts, known}
 use Rattle.trace_machine.proofs.StandingFound.{held_is}
@@ -22,7 +23,14 @@ end_one-requires g c =
     (ap (λ (w : MachineView). (hand_of w.parts c.args.actor).thread) (sym c.self.view_is) ∙ c.release.ensures.thread))
 
 pub set-requires : goal.set-requires
-set-requires g c = ?
+set-requires g c =
+    let v : MachineView = c.args.self.now in
+    let y = c.requires.machine.1.0 in
+    let means = c.requires.machine.1.2 in
+    let named : c.release.result.name ≡ c.into_facts-ended.result.name = ap (λ (u : Facts). u.name) (sym c.into_facts-ended.ensures.facts) in
+    let holding = ap (λ (w : MachineView). (hand_of w.parts c.args.actor).thread) (sym c.self.view_is) ∙ c.release.ensures.thread in
+    subst (λ (w : MachineView). is_some (standing_of w.names c.into_facts-ended.result.name) ≡ true) (sym c.self.view_is)
+    (ap (λ n. is_some (standing_of v.names n)) (sym named) ∙ ap is_some (held_is v y (known v y means (c.stays.ensures y means)) c.args.actor c.release.result holding))
 
 pub returns : goal.returns
 returns g c y means =

@@ -1,4 +1,4 @@
-use Rattle.std.proofs.Common.{◌≡◌, ℕ, ap, refl, sym, subst, ◌<◌, ◌^◌, ◌∙◌, Some, None}
+use Rattle.std.proofs.Common.{◌≡◌, ℕ, ap, refl, sym, subst, true, is_some, ◌<◌, ◌∙◌}
 use Rattle.sched_base.specs.declared.Act.TheVariants as acts
 use Rattle.sched_base.specs.declared.Answer.TheVariants as answers
 use Rattle.trace_machine.specs.Acting.{ActsTo, IsSet, KeepsOn}
@@ -26,7 +26,15 @@ sleep-slot-requires g c =
     (ap (λ (w : MachineView). (hand_of w.parts c.args.actor).thread) (sym c.self.view_is) ∙ c.release-thread.ensures.thread))
 
 pub set-requires : goal.set-requires
-set-requires g c = ?
+set-requires g c =
+    let v : MachineView = c.args.self.now in
+    let y = c.requires.machine.1.0 in
+    let means = c.requires.machine.1.2 in
+    let named : c.release-thread.result.name ≡ c.in-Some.name = same_Some c.release-thread.result.name c.in-Some.name
+    (ap (option_map (λ (u : Facts). u.name)) (sym c.release-thread.ensures.thread) ∙ sym c.held_name.ensures ∙ c.in-Some.is) in
+    let holding = ap (λ (w : MachineView). (hand_of w.parts c.args.actor).thread) (sym c.self.view_is) ∙ c.release-thread.ensures.thread in
+    subst (λ (w : MachineView). is_some (standing_of w.names c.in-Some.name) ≡ true) (sym c.self.view_is)
+    (ap (λ n. is_some (standing_of v.names n)) (sym named) ∙ ap is_some (held_is v y (known v y means (c.stays.ensures y means)) c.args.actor c.release-thread.result holding))
 
 pub returns : goal.returns
 returns g c y means =
