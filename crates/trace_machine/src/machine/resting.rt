@@ -1,6 +1,6 @@
 //! Acts in the yard: threads are made, sleep, wake and end.
 
-ghost use Rattle.std.specs.Prelude.{◌≡◌, ◌<◌, OnErr, OnOk};
+ghost use Rattle.std.specs.Prelude.{◌≡◌, ◌<◌, IfOk, OnErr};
 ghost use Rattle.sched_base.specs.declared.Act.TheVariants as acts;
 ghost use Rattle.flat_policy.specs.Policy.Setup.{group_count};
 ghost use Rattle.flat_policy.specs.Policy.Threads.{preference};
@@ -49,7 +49,7 @@ impl<K: Cluster> Machine<K> {
         now: u64,
     ) -> Result<Answer, AllocError>
         requires { IsSet self.old actor now (acts.Make name group bucket base bound) }
-        ensures done { OnOk result (λ answer. Acts self.old self.new actor now (acts.Make name group bucket base bound) answer) }
+        ensures done { IfOk result (λ answer. Acts self.old self.new actor now (acts.Make name group bucket base bound) answer) }
         ensures err { OnErr result (self.new ≡ self.old) }
     {
         self.stays();
@@ -95,13 +95,15 @@ impl<K: Cluster> Machine<K> {
             return Answer::HandFull;
         }
         let standing = self.names.get(name);
-        let Some(slot) = slot_at(standing) else {
-            return Answer::NotBlocked(place_at(standing));
-        };
-        let thread = self.yard.wake(slot, now);
-        self.parts.fill(actor, thread, now);
-        self.names.set(name, Standing::Held(actor));
-        Answer::Yes
+        match slot_at(standing) {
+            Some(slot) => {
+                let thread = self.yard.wake(slot, now);
+                self.parts.fill(actor, thread, now);
+                self.names.set(name, Standing::Held(actor));
+                Answer::Yes
+            }
+            None => Answer::NotBlocked(place_at(standing)),
+        }
     }
 
     /// The hand's thread ends.

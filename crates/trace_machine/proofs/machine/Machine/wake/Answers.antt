@@ -1,4 +1,4 @@
-use Rattle.std.proofs.Common.{◌≡◌, ℕ, ap, refl, sym, subst, true, false, is_some, ◌<◌, ◌^◌, ◌∙◌, Some, None}
+use Rattle.std.proofs.Common.{◌≡◌, ℕ, ap, refl, sym, subst, is_some, ◌∙◌, Some, None}
 use Rattle.sched_base.specs.declared.Act.TheVariants as acts
 use Rattle.sched_base.specs.declared.Answer.TheVariants as answers
 use Rattle.trace_machine.specs.Acting.{ActsTo, IsSet, KeepsOn}
@@ -27,8 +27,8 @@ wake-thread-requires g c =
     (ap is_some (sleeper_is v y (known v y means (c.stays.ensures y means)) c.args.name slot
     (ap (λ (w : MachineView). standing_of w.names c.args.name) (sym c.self.view_is) ∙ stands)).1)
 
-pub returns : goal.returns
-returns g c y means =
+pub returns-in-Some : goal.returns-in-Some
+returns-in-Some g c y means =
     let i = c.self.inside in
     let a = c.args.actor in
     let act = acts.Wake c.args.name in
