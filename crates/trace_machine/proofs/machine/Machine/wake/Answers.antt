@@ -12,7 +12,7 @@ use Rattle.trace_machine.proofs.ActsTo.{refused_acts}
 use Rattle.trace_machine.proofs.SleepActs.{WakesUp, wake_acts, wake_refused}
 use Rattle.trace_machine.proofs.StandingFound.{sleeper_is, slot_is}
 use Rattle.trace_machine.proofs.YardActs.{known}
-use Rattle.trace_machine.proofs.YardMoves.{no_thread}
+use Rattle.trace_machine.proofs.YardMoves.{none_there}
 use Rattle.trace_machine.proofs.machine.Machine.wake.Goals as goal
 
 pub wake-thread-requires : goal.wake-thread-requires
@@ -47,7 +47,7 @@ returns-in-Some g c y means =
     } in
     subst (λ (v : MachineView). IsSet v a c.args.now act → MeansOver v y → KeepsOn v y → ActsTo v new y a c.args.now act answers.Yes) c.self.view_is
     (λ set over keeps. wake_acts old new y a c.args.now c.args.name slot t set over keeps
-    (no_thread (hand_of i.parts a).thread (sym c.holds.ensures ∙ c.if-holds.false)) stands c.wake-thread.ensures.woken c.fill.ensures wakes c.set.ensures refl)
+    (none_there (hand_of i.parts a).thread (sym c.holds.ensures ∙ c.if-holds.false)) stands c.wake-thread.ensures.woken c.fill.ensures wakes c.set.ensures refl)
     c.requires means (c.stays.ensures y means)
 
 pub returns-in-None : goal.returns-in-None
@@ -60,6 +60,6 @@ returns-in-None g c y means =
     let elsewhere : slot_in (standing_of i.names c.args.name) ≡ None = ap slot_in (sym c.get-standing.ensures) ∙ sym c.slot_at.ensures ∙ c.in-None.is in
     subst (λ (v : MachineView). MeansOver v y → KeepsOn v y → ActsTo v v y a c.args.now act told) c.self.view_is
     (λ over keeps. refused_acts old y a c.args.now act told over
-    (wake_refused old y a c.args.name (known old y over keeps) (no_thread (hand_of i.parts a).thread (sym c.holds.ensures ∙ c.if-holds.false)) elsewhere
+    (wake_refused old y a c.args.name (known old y over keeps) (none_there (hand_of i.parts a).thread (sym c.holds.ensures ∙ c.if-holds.false)) elsewhere
     ∙ ap (λ p. Some (answers.NotBlocked p)) (ap place_in (sym c.get-standing.ensures) ∙ sym c.place_at.ensures)))
     means (c.stays.ensures y means)
