@@ -1,10 +1,13 @@
 //! Acts in the yard: threads are made, sleep, wake and end.
 
-ghost use Rattle.std.specs.Prelude.{◌≡◌, ◌<◌, IfOk, OnErr};
+ghost use Rattle.std.specs.Prelude.{◌≡◌, ◌<◌, IfOk, None, OnErr};
 ghost use Rattle.sched_base.specs.declared.Act.TheVariants as acts;
+ghost use Rattle.flat_policy.specs.Policy.Machine.{Yard, first_refusal, refusals_by};
 ghost use Rattle.flat_policy.specs.Policy.Setup.{group_count};
 ghost use Rattle.flat_policy.specs.Policy.Threads.{preference};
 ghost use Rattle.trace_machine.specs.Acting.{Acts, IsSet};
+ghost use Rattle.trace_machine.specs.Machines.{MeansOver};
+ghost use Rattle.trace_machine.specs.Parts.{hand_of, state_of};
 ghost use Rattle.trace_machine.specs.Yards.{slot_in};
 
 use super::{Machine, place_at};
@@ -37,7 +40,8 @@ fn slot_at(standing: Option<Standing>) -> Option<u32>
 }
 
 impl<K: Cluster> Machine<K> {
-    /// Makes a thread into the hand. An error is want of memory, and changes nothing.
+    /// Makes a thread into the hand. An error is want of memory: only a make that isn't refused may
+    /// answer it, and then nothing changes.
     pub fn make(
         &mut self,
         actor: u8,
@@ -51,6 +55,7 @@ impl<K: Cluster> Machine<K> {
         requires { IsSet self.old actor now (acts.Make name group bucket base bound) }
         ensures done { IfOk result (λ answer. Acts self.old self.new actor now (acts.Make name group bucket base bound) answer) }
         ensures err { OnErr result (self.new ≡ self.old) }
+        ensures accepted { OnErr result ((y : Yard) → MeansOver self.old y → first_refusal (refusals_by self.old.parts.setup (state_of self.old.parts y) actor (hand_of self.old.parts actor) (acts.Make name group bucket base bound)) ≡ None) }
     {
         self.stays();
         if self.parts.holds(actor) {

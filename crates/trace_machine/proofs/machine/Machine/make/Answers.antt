@@ -1,4 +1,4 @@
-use Rattle.std.proofs.Common.{◌≡◌, ap, refl, sym, subst, is_some, ◌<◌, ◌≤◌, ◌∙◌, arith}
+use Rattle.std.proofs.Common.{◌≡◌, ap, refl, sym, subst, is_some, ◌<◌, ◌≤◌, ◌∙◌, None, arith}
 use Rattle.sched_base.specs.Facts.{fresh}
 use Rattle.sched_base.specs.declared.Act.TheVariants as acts
 use Rattle.sched_base.specs.declared.Answer.TheVariants as answers
@@ -10,9 +10,9 @@ use Rattle.trace_machine.specs.Acting.{ActsTo, IsSet, KeepsOn}
 use Rattle.trace_machine.specs.Machines.{MachineView, MeansOver}
 use Rattle.trace_machine.specs.Parts.{hand_of}
 use Rattle.trace_machine.specs.Yards.{standing_of}
-use Rattle.trace_machine.proofs.ActsTo.{refused_acts}
+use Rattle.trace_machine.proofs.ActsTo.{refused_acts, refused_by}
 use Rattle.trace_machine.proofs.Setting.{rehanded}
-use Rattle.trace_machine.proofs.YardActs.{known, make_acts, make_crowded, make_used}
+use Rattle.trace_machine.proofs.YardActs.{known, make_accepted, make_acts, make_crowded, make_used}
 use Rattle.trace_machine.proofs.YardMoves.{none_there}
 use Rattle.trace_machine.proofs.machine.Machine.make.Goals as goal
 
@@ -64,3 +64,17 @@ returns-clause-done g c y means =
     (λ set over keeps. make_acts old new y d.actor d.now d.name d.group d.base d.bucket d.bound set over keeps empty unnamed room
     (c.fill.ensures ∙ ap (λ (t : Facts). rehanded i.parts d.actor (filled_hand setup t d.now)) made) c.make.ensures c.in_ok-add.ensures.added refl)
     c.requires means (c.stays.ensures y means)
+
+pub returns-in_err-add-clause-accepted : goal.returns-in_err-add-clause-accepted
+returns-in_err-add-clause-accepted g c y means =
+    let i = c.self.inside in
+    let d = c.args in
+    let act = acts.Make d.name d.group d.bucket d.base d.bound in
+    let old : MachineView = record { parts = i.parts; yard = i.yard; names = i.names; steps = i.steps } in
+    let empty = none_there (hand_of i.parts d.actor).thread (sym c.holds.ensures ∙ c.if-holds.false) in
+    let unnamed = none_there (standing_of i.names d.name) (ap is_some (sym c.get.ensures) ∙ sym c.is_some.ensures ∙ c.if-is_some.false) in
+    let room : i.yard.live < i.parts.setup.threads =
+    omega (arith, c.if-live-threads.false, c.live.ensures, c.threads.ensures.threads, ap (λ (s : SetupParts). s.threads) c.setup.ensures) in
+    subst (λ (v : MachineView). MeansOver v y → KeepsOn v y → refused_by v.parts y d.actor act ≡ None) c.self.view_is
+    (λ over keeps. make_accepted old y d.actor d.name d.group d.base d.bucket d.bound (known old y over keeps) empty unnamed room)
+    means (c.stays.ensures y means)
