@@ -10,6 +10,7 @@ pub mod Keeping
 pub mod LiveNames
 pub mod Making
 pub mod Moving
+pub mod MovingActs
 pub mod QueueRoom
 pub mod Readings
 pub mod Setting
