@@ -17,6 +17,7 @@ pub mod Setting
 pub mod SleepActs
 pub mod Standing
 pub mod StandingFound
+pub mod TakingActs
 pub mod Touching
 pub mod YardActs
 pub mod YardMoves

@@ -46,12 +46,12 @@ pub record IsMove (old new : MachineView) (y : Yard) (a now : ℕ) (act : Act) (
   pub steps : new.steps ≡ old.steps
 
 -- the hands after it
-hands_after : (old new : MachineView) (y : Yard) (a now : ℕ) (act : Act) (told : Answer) (hand : Hand) → Does old.parts new.parts a now act told
+pub hands_after : (old new : MachineView) (y : Yard) (a now : ℕ) (act : Act) (told : Answer) (hand : Hand) → Does old.parts new.parts a now act told
     → (accepted_at old.parts y a now act).state.hands ≡ slice_set old.parts.hands a hand → new.parts.hands ≡ slice_set old.parts.hands a hand
 hands_after old new y a now act told hand does hands = sym (ap (λ (g : MachineState). g.hands) (does.leads y)) ∙ hands
 
 -- a hand by the list of hands
-hand_by : (p q : PartsView) (a : ℕ) (hand : Hand) (k : ℕ) → q.hands ≡ slice_set p.hands a hand → (hand_of q k).thread ≡ (hand_of (rehanded p a hand) k).thread
+pub hand_by : (p q : PartsView) (a : ℕ) (hand : Hand) (k : ℕ) → q.hands ≡ slice_set p.hands a hand → (hand_of q k).thread ≡ (hand_of (rehanded p a hand) k).thread
 hand_by p q a hand k is = ap (λ hs. (hand_of (record p { hands = hs }) k).thread) is
 
 move_frame : (old new : MachineView) (y : Yard) (a now : ℕ) (act : Act) (told : Answer) (name : ℕ) (s : Standing) → IsMove old new y a now act told name s → Frame old new y y (is_name name)
