@@ -11,6 +11,7 @@ pub mod LiveNames
 pub mod Making
 pub mod Moving
 pub mod MovingActs
+pub mod PullActs
 pub mod QueueRoom
 pub mod Readings
 pub mod Setting

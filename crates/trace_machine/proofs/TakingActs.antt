@@ -1,7 +1,7 @@
 -- Acts that take a thread out of a queue into an empty hand.
 use Rattle.std.proofs.Common.{◌≡◌, ◌≢◌, ℕ, ◌==◌, ◌+◌, ◌≤◌, ◌<◌, Bool, true, false, cond, Contains, List, [], ◌∷◌, Option, Some, None, count_by, is_none, is_some, length, not, slice_set, refl, sym, ap, ◌∙◌, subst, inl, inr, arith, eq-eqb}
 use Rattle.std.specs.List.{list_any}
-use Rattle.std.proofs.lemmas.Bool.{cond_both, ne_eqb}
+use Rattle.std.proofs.lemmas.Bool.{cond_both, eqb-true, ne_eqb}
 use Rattle.std.proofs.lemmas.Option.{same_Some}
 use Rattle.link_arena.specs.Arena.{value_at}
 use Rattle.sched_base.specs.declared.Act.{Act}
@@ -12,7 +12,7 @@ use Rattle.sched_base.specs.declared.Facts.{Facts}
 use Rattle.sched_base.specs.declared.Ticket.{Ticket}
 use Rattle.flat_policy.specs.Laws.Counts.{EachNameOnce}
 use Rattle.flat_policy.specs.Policy.ClusterSteps.{Event, facts_of, got, named_entry, offer_event, pull_event, select_event, touched}
-use Rattle.flat_policy.specs.Policy.Machine.{Hand, MachineState, Outcome, Sleeper, Yard, count_held, filled_hand, flat_at, hand_at, hand_full, holds, kept_hand, not_queued, pull_outcome, refuse, taking, taking_hand}
+use Rattle.flat_policy.specs.Policy.Machine.{Hand, MachineState, Outcome, Refusal, Sleeper, Yard, count_held, filled_hand, flat_at, hand_at, hand_full, holds, kept_hand, not_queued, pull_outcome, refuse, taking, taking_hand}
 use Rattle.flat_policy.specs.Policy.Moves.{pick, selected}
 use Rattle.flat_policy.specs.Policy.Offer.{offered_between}
 use Rattle.flat_policy.specs.Policy.Queue.{Flat, Queued}
@@ -21,17 +21,17 @@ use Rattle.trace_machine.specs.Acting.{ActsTo, IsKept, IsSet, KeepsOn, outcome_a
 use Rattle.trace_machine.specs.declared.names.Standing.TheVariants as standings
 use Rattle.trace_machine.specs.declared.yard.Resting.{Resting}
 use Rattle.trace_machine.specs.Machines.{MachineView, MeansOver, StandsThere}
-use Rattle.trace_machine.specs.Parts.{Does, IsOtherThread, PartsView, accepted_at, cluster_at, hand_of, state_of}
+use Rattle.trace_machine.specs.Parts.{Does, IsOtherThread, IsQueuedAs, PartsView, accepted_at, cluster_at, hand_of, state_of}
 use Rattle.trace_machine.specs.Yards.{sleeper_in, standing_of}
 use Rattle.trace_machine.proofs.ActsTo.{accepted_is, quiet_acts, quiet_from, refused_by}
-use Rattle.trace_machine.proofs.Found.{member_counted}
+use Rattle.trace_machine.proofs.Found.{found_passes, member_counted}
 use Rattle.trace_machine.proofs.LiveNames.{few_counted, hand_and_yard, made_where_counted}
 use Rattle.trace_machine.proofs.MovingActs.{IsMove, hand_by, hands_after, move_acts}
 use Rattle.trace_machine.proofs.Setting.{hand_changed, rehanded}
-use Rattle.trace_machine.proofs.Standing.{KnowsPlaces, used_is}
+use Rattle.trace_machine.proofs.Standing.{KnowsPlaces, flat_is, used_is}
 use Rattle.trace_machine.proofs.StandingFound.{is_queued_at, not_queued_is, queued_is}
 use Rattle.trace_machine.proofs.YardActs.{actor_within, known}
-use Rattle.trace_machine.proofs.YardMoves.{IsNoted, refusal_none}
+use Rattle.trace_machine.proofs.YardMoves.{IsNoted, apart_from_sleepers, refusal_none}
 
 -- an event that tells the name of the thread that it takes, and of none where it takes none
 pub record Tells (e : Event) : Type 0 where
@@ -174,3 +174,31 @@ taken_by old new y a now act told m means keeps notes yard steps (Some t) is = t
 pub taken_acts : (old new : MachineView) (y : Yard) (a now : ℕ) (act : Act) (told : Answer) → IsTake old new.parts y a now act told → MeansOver old y → KeepsOn old y
     → NotesHeld old new a told → new.yard ≡ old.yard → new.steps ≡ old.steps → ActsTo old new y a now act told
 taken_acts old new y a now act told m means keeps notes yard steps = taken_by old new y a now act told m means keeps notes yard steps m.event.thread refl
+
+-- a select and an offer take so
+pub select_takes : (old : MachineView) (new : PartsView) (y : Yard) (a now : ℕ) (told : Answer) → IsSet old a now acts.Select → (hand_of old.parts a).thread ≡ None
+    → Does old.parts new a now acts.Select told → IsTake old new y a now acts.Select told
+select_takes old new y a now told set empty does = record {
+  set = set;
+  empty = empty;
+  accepted = refusal_none (hand_full (hand_of old.parts a)) [] (ap is_some empty) refl;
+  cluster = home_of old.parts.setup a;
+  event = select_event old.parts.setup (home_of old.parts.setup a) now (flat_at (state_of old.parts y) (home_of old.parts.setup a));
+  comes = refl;
+  tells = select_tells old.parts.setup (home_of old.parts.setup a) now (flat_at (state_of old.parts y) (home_of old.parts.setup a));
+  does = does;
+}
+
+pub offer_takes : (old : MachineView) (new : PartsView) (y : Yard) (a now c : ℕ) (told : Answer) → IsSet old a now (acts.Offer c) → (hand_of old.parts a).thread ≡ None
+    → c ≢ home_of old.parts.setup a → Does old.parts new a now (acts.Offer c) told → IsTake old new y a now (acts.Offer c) told
+offer_takes old new y a now c told set empty other does = record {
+  set = set;
+  empty = empty;
+  accepted = refusal_none (hand_full (hand_of old.parts a)) (refuse (c == home_of old.parts.setup a) answers.OwnCluster ∷ []) (ap is_some empty)
+      (refusal_none (refuse (c == home_of old.parts.setup a) answers.OwnCluster) [] (ne_eqb c (home_of old.parts.setup a) other) refl);
+  cluster = c;
+  event = offer_event old.parts.setup c (home_of old.parts.setup a) now (flat_at (state_of old.parts y) c);
+  comes = refl;
+  tells = offer_tells old.parts.setup c (home_of old.parts.setup a) now (flat_at (state_of old.parts y) c);
+  does = does;
+}
