@@ -25,7 +25,7 @@ changes_element f old new xs c x y h arrivals turns clusters there is becomes ne
     let at : cluster_at old c ≡ f x = at_element f old xs c x clusters there is
     in let goes : f y ≡ h (cluster_at old c) = next ∙ ap h (sym at)
     in let list : map f (set xs c y) ≡ slice_set old.clusters c (h (cluster_at old c)) =
-        map-set f xs c y ∙ ap (λ vs. set vs c (f y)) (sym clusters) ∙ ap (λ v. set old.clusters c v) goes
+    map-set f xs c y ∙ ap (λ vs. set vs c (f y)) (sym clusters) ∙ ap (λ v. set old.clusters c v) goes
     in record {
       parts = becomes ∙ ap (λ vs. record old { clusters = vs }) list;
       kept = subst IsCluster (sym at) kept;

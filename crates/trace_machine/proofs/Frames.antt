@@ -58,8 +58,8 @@ yard_stays old new y moved f same has apart = record {
   count = ap (λ (yard : YardView). live_count yard.sleepers) same ∙ has.count;
   blocked = λ slot w is. has.blocked slot w (subst (λ (yard : YardView). value_at yard.sleepers slot ≡ Some w) same is);
   named = λ slot w is.
-  let was = subst (λ (yard : YardView). value_at yard.sleepers slot ≡ Some w) same is in
-  f.table w.thread.name (apart slot w was) ∙ has.named slot w was;
+      let was = subst (λ (yard : YardView). value_at yard.sleepers slot ≡ Some w) same is in
+      f.table w.thread.name (apart slot w was) ∙ has.named slot w was;
   room = subst (λ (s : SetupParts). s.threads ≤ new.yard.sleepers.spare + live_count new.yard.sleepers) (sym f.setup)
       (subst (λ (yard : YardView). old.parts.setup.threads ≤ yard.sleepers.spare + live_count yard.sleepers) (sym same) has.room);
 }

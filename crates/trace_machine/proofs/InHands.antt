@@ -49,9 +49,9 @@ pub runs : (p new : PartsView) (a now us rate told : ℕ) (t charged_t : Facts)
     → Does p new a now (acts.Ran us) (answers.Work told)
 runs p new a now us rate told t charged_t held rated charges tells changes =
     let comes : (y : Yard) → accepted_at p y a now (acts.Ran us) ≡ ran_outcome_by (state_of p y) a (hand_of p a) now charged_t =
-      λ y. ap (ran_outcome p.setup (state_of p y) a (hand_of p a) us now) held
-        ∙ ap (λ r. ran_outcome_by (state_of p y) a (hand_of p a) now (charged us r t)) (sym rated)
-        ∙ ap (λ (f : Facts). ran_outcome_by (state_of p y) a (hand_of p a) now f) (sym charges) in
+    λ y. ap (ran_outcome p.setup (state_of p y) a (hand_of p a) us now) held
+    ∙ ap (λ r. ran_outcome_by (state_of p y) a (hand_of p a) now (charged us r t)) (sym rated)
+    ∙ ap (λ (f : Facts). ran_outcome_by (state_of p y) a (hand_of p a) now f) (sym charges) in
     does_in_hand p new a (record (hand_of p a) { thread = Some charged_t; last = now }) now (acts.Ran us) (answers.Work told) changes
     (λ y. ap (λ (o : Outcome). o.answer) (comes y) ∙ ap (λ k. answers.Work k) (sym tells))
     (λ y. ap (λ (o : Outcome). o.state) (comes y))

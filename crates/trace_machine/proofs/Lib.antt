@@ -8,6 +8,7 @@ pub mod Histories
 pub mod InHands
 pub mod Keeping
 pub mod LiveNames
+pub mod Looking
 pub mod Making
 pub mod Moving
 pub mod MovingActs

@@ -1,11 +1,11 @@
 -- Clusters as they are made and as they end.
-use Rattle.std.proofs.Common.{◌≡◌, ℕ, ◌+◌, ◌*◌, ◌<◌, ◌≤◌, ◌^◌, List, [], ◌∷◌, ◌++◌, All, length, map, replicate, take, get_or, slice_index_or, refl, sym, ap, ◌∙◌, subst, inl, inr, arith}
+use Rattle.std.proofs.Common.{◌≡◌, ℕ, ◌+◌, ◌<◌, ◌≤◌, ◌^◌, List, [], ◌∷◌, ◌++◌, All, length, map, replicate, take, get_or, slice_index_or, sym, ap, ◌∙◌, subst, inl, inr, arith}
 use Rattle.std.proofs.Math.Seq.{get_or-append_seam}
 use Rattle.std.proofs.lemmas.Bool.{cases_eq}
 use Rattle.std.proofs.lemmas.List.{get_or_append_left, length_push, map-append, replicate_more, take-map}
 use Rattle.std.proofs.lemmas.List.Elements.{All-from_get_or, All-take}
 use Rattle.flat_policy.specs.Policy.Clusters.{ClusterView}
-use Rattle.flat_policy.specs.Policy.Machine.{Hand, MachineState, empty_hand, empty_machine, empty_yard}
+use Rattle.flat_policy.specs.Policy.Machine.{Hand, empty_hand, empty_machine, empty_yard}
 use Rattle.flat_policy.specs.Policy.Queue.{Flat, empty_flat}
 use Rattle.flat_policy.specs.Policy.Setup.{SetupParts, actor_count, cluster_count, group_count}
 use Rattle.trace_machine.specs.Making.{AreNew, CanEnd, IsNew}
@@ -22,19 +22,19 @@ pub new_more : (setup : SetupParts) (n : ℕ) (vs : List ClusterView) (v : Clust
 new_more setup n vs v are is = record {
   count = omega (arith, length_push vs v, are.count);
   empty =
-    map-append (λ (w : ClusterView). w.flat) vs (v ∷ [])
-    ∙ ap (λ (fs : List Flat). fs ++ v.flat ∷ []) are.empty
-    ∙ ap (λ (s : Flat). replicate n (empty_flat (group_count setup)) ++ s ∷ []) is.empty
-    ∙ replicate_more n (empty_flat (group_count setup));
+      map-append (λ (w : ClusterView). w.flat) vs (v ∷ [])
+      ∙ ap (λ (fs : List Flat). fs ++ v.flat ∷ []) are.empty
+      ∙ ap (λ (s : Flat). replicate n (empty_flat (group_count setup)) ++ s ∷ []) is.empty
+      ∙ replicate_more n (empty_flat (group_count setup));
   serve = λ c lt. elim (cases_eq c n) [
-      inl at ↦
+    | inl at ↦
         subst (λ k. Serves setup 0 k (slice_index_or (vs ++ v ∷ []) k (no_cluster setup))) (sym at)
         (subst (λ k. Serves setup 0 n (slice_index_or (vs ++ v ∷ []) k (no_cluster setup))) are.count
-          (subst (Serves setup 0 n) (sym (get_or-append_seam vs v [] (no_cluster setup))) is.serves))
-      | inr differs ↦
+        (subst (Serves setup 0 n) (sym (get_or-append_seam vs v [] (no_cluster setup))) is.serves))
+    | inr differs ↦
         let below : c < n = omega arith in
         subst (Serves setup 0 c) (sym (get_or_append_left vs (v ∷ []) (no_cluster setup) c (omega (arith, are.count, below)))) (are.serve c below)
-    ];
+  ];
 }
 
 pub made_more : {X : Type 0} (view : X → ClusterView) (setup : SetupParts) (n : ℕ) (xs : List X) (x : X)

@@ -127,12 +127,12 @@ wake_yard old new y a now slot name k stands setup f table =
     let w : Resting = found.0 in
     let test : Sleeper → Bool = λ s. s.facts.name == name in
     let one : count_by test y.blocked ≡ 1 =
-        omega (
-            arith,
-            member_counted test y.blocked (sleeper_in w) (k.yard.blocked slot w found.1) (eq-eqb w.thread.name name found.2),
-            within_all (state_of old.parts y) places.Blocked name,
-            counted_once (state_of old.parts y) name k.once,
-        ) in
+    omega (
+      arith,
+      member_counted test y.blocked (sleeper_in w) (k.yard.blocked slot w found.1) (eq-eqb w.thread.name name found.2),
+      within_all (state_of old.parts y) places.Blocked name,
+      counted_once (state_of old.parts y) name k.once,
+    ) in
     record {
       last = f.last;
       live = f.live ∙ k.yard.live;
@@ -141,7 +141,7 @@ wake_yard old new y a now slot name k stands setup f table =
           let differs = other_slot old new slot now at r f is in
           let was = sym (f.removes.elsewhere.values at differs) ∙ is in
           filter_has (λ (s : Sleeper). not (s.facts.name == name)) y.blocked (sleeper_in r) (k.yard.blocked at r was)
-              (ap not (ne_eqb r.thread.name name (other_name old y name slot at r k stands was differs)));
+          (ap not (ne_eqb r.thread.name name (other_name old y name slot at r k stands was differs)));
       named = λ at r is.
           let differs = other_slot old new slot now at r f is in
           let was = sym (f.removes.elsewhere.values at differs) ∙ is in
@@ -212,15 +212,15 @@ blocked_acts old new y a now count set means is parts yard names steps =
     let after : Yard = record y { last = now } in
     let hand : Hand = kept_hand (hand_of old.parts a) now in
     let frame = quiet_frame old new y after a
-        (record {
-          hand = hand;
-          hands = ap (λ (p : PartsView). p.hands) parts;
-          thread = refl;
-          queues = λ c slot arrival name stands. subst (λ (p : PartsView). NameStands (cluster_at p c) slot arrival name) (sym parts) stands;
-          names = names;
-          setup = ap (λ (p : PartsView). p.setup) parts;
-        })
-        (actor_within old a now acts.Blocked set) (ap (λ (s : YardView). s.sleepers) yard) refl refl in
+    (record {
+      hand = hand;
+      hands = ap (λ (p : PartsView). p.hands) parts;
+      thread = refl;
+      queues = λ c slot arrival name stands. subst (λ (p : PartsView). NameStands (cluster_at p c) slot arrival name) (sym parts) stands;
+      names = names;
+      setup = ap (λ (p : PartsView). p.setup) parts;
+    })
+    (actor_within old a now acts.Blocked set) (ap (λ (s : YardView). s.sleepers) yard) refl refl in
     record {
       after = after;
       answers = ap (λ n. answers.Left n) (sym means.yard.count ∙ sym is);

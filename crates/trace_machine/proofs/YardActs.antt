@@ -38,11 +38,10 @@ actor_within v a now act set = omega (arith, set.ready.actor, set.ready.hands)
 -- a thread in the changed hand stands there
 pub stands_held : (old new : MachineView) (after : Yard) (a now : ℕ) (t : Facts) → new.parts ≡ rehanded old.parts a (filled_hand old.parts.setup t now)
     → a < actor_count old.parts.setup → a < length old.parts.hands → StandsThere new after t.name (Some (standings.Held a))
-stands_held old new after a now t parts below within =
-    (
-        subst (λ (p : PartsView). a < actor_count p.setup) (sym parts) below,
-        (t, ap (λ (h : Hand). h.thread) (hand_is old new a (filled_hand old.parts.setup t now) parts within), refl),
-    )
+stands_held old new after a now t parts below within = (
+  subst (λ (p : PartsView). a < actor_count p.setup) (sym parts) below,
+  (t, ap (λ (h : Hand). h.thread) (hand_is old new a (filled_hand old.parts.setup t now) parts within), refl),
+)
 
 -- a make is accepted where the hand is empty, the name was never made, and fewer threads live than may
 pub make_accepted : (v : MachineView) (y : Yard) (a name group base : ℕ) (bucket : Bucket) (bound : Option ℕ) → KnowsPlaces v y

@@ -31,6 +31,14 @@ impl<K: Cluster> Parts<K> {
         self.setup.home(actor)
     }
 
+    /// Whether the hand holds a thread.
+    pub fn holds(&self, actor: u8) -> bool
+        requires { actor < length self.now.hands }
+        ensures { result ≡ is_some (hand_of self.now actor).thread }
+    {
+        self.hands[actor as usize].thread.is_some()
+    }
+
     /// The facts of the hand's thread.
     pub fn hand(&self, actor: u8) -> Option<Facts>
         requires { actor < length self.now.hands }
@@ -40,14 +48,6 @@ impl<K: Cluster> Parts<K> {
             Some(thread) => Some(thread.facts()),
             None => None,
         }
-    }
-
-    /// Whether the hand holds a thread.
-    pub fn holds(&self, actor: u8) -> bool
-        requires { actor < length self.now.hands }
-        ensures { result ≡ is_some (hand_of self.now actor).thread }
-    {
-        self.hands[actor as usize].thread.is_some()
     }
 
     /// The name of the hand's thread.

@@ -8,5 +8,5 @@ use Rattle.trace_machine.proofs.parts.Parts.is_on.Goals as goal
 pub returns : goal.returns
 returns g c =
     let at = at_element g.K.Cluster.view c.args.self.now c.self.inside.clusters.items c.args.c c.index.result.now
-        (ap (λ (p : PartsView). p.clusters) (sym c.self.view_is)) c.requires c.index.ensures in
+    (ap (λ (p : PartsView). p.clusters) (sym c.self.view_is)) c.requires c.index.ensures in
     c.is_on.ensures ∙ ap (λ (v : ClusterView). v.flat.on) (sym at)

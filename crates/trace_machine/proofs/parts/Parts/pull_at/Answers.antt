@@ -10,13 +10,13 @@ use Rattle.trace_machine.proofs.parts.Parts.pull_at.Goals as goal
 pub returns-clause-pulled : goal.returns-clause-pulled
 returns-clause-pulled g c =
     let at = at_element g.K.Cluster.view c.args.self.now c.self.inside.clusters.items c.args.c c.index_mut-cluster.result.now
-        (ap (λ (p : PartsView). p.clusters) (sym c.self.view_is)) c.requires.there c.index_mut-cluster.ensures.value in
+    (ap (λ (p : PartsView). p.clusters) (sym c.self.view_is)) c.requires.there c.index_mut-cluster.ensures.value in
     c.pull.ensures.pulled ∙ ap (λ (v : ClusterView). facts_of (standing v c.args.ticket.slot c.args.ticket.arrival)) (sym at)
 
 pub returns-clause-changes : goal.returns-clause-changes
 returns-clause-changes g c =
     changes_element g.K.Cluster.view c.args.self.now _ c.self.inside.clusters.items c.args.c c.index_mut-cluster.result.now c.pull.new.self
-        (λ (v : ClusterView). after_pull v (standing v c.args.ticket.slot c.args.ticket.arrival) c.args.now) 0 1
-        (ap (λ (p : PartsView). p.clusters) (sym c.self.view_is)) c.requires.there c.index_mut-cluster.ensures.value
-        (ap (λ (p : PartsView). record p { clusters = map g.K.Cluster.view (set c.self.inside.clusters.items c.args.c c.pull.new.self) }) c.self.view_is)
-        c.pull.ensures.view c.keeps.ensures c.pull.ensures.rises c.pull.ensures.room
+    (λ (v : ClusterView). after_pull v (standing v c.args.ticket.slot c.args.ticket.arrival) c.args.now) 0 1
+    (ap (λ (p : PartsView). p.clusters) (sym c.self.view_is)) c.requires.there c.index_mut-cluster.ensures.value
+    (ap (λ (p : PartsView). record p { clusters = map g.K.Cluster.view (set c.self.inside.clusters.items c.args.c c.pull.new.self) }) c.self.view_is)
+    c.pull.ensures.view c.keeps.ensures c.pull.ensures.rises c.pull.ensures.room

@@ -7,8 +7,8 @@ use Rattle.trace_machine.proofs.InHands.{hand_ran, runs}
 use Rattle.trace_machine.proofs.Readings.{hand_read}
 use Rattle.trace_machine.proofs.parts.Parts.ran.Goals as goal
 
-pub returns : goal.returns
-returns g c =
+pub returns-clause-does : goal.returns-clause-does
+returns-clause-does g c =
     let p = c.args.self.now in
     let view = g.K.Cluster.view in
     let setup = c.self.inside.setup in
@@ -24,3 +24,6 @@ returns g c =
     c.charge.ensures
     (ap (λ (f : Facts). f.work) c.facts.ensures.facts)
     (hand_ran view setup xs hs p a hand c.charge.new.self c.args.now c.self.view_is there c.index_mut-hand.ensures.value)
+
+pub returns-clause-clusters : goal.returns-clause-clusters
+returns-clause-clusters g c = ap (λ (q : PartsView). q.clusters) c.self.view_is
