@@ -11,12 +11,15 @@ pub mod LiveNames
 pub mod Looking
 pub mod Making
 pub mod Moving
+pub mod MovingActs
+pub mod PullActs
 pub mod QueueRoom
 pub mod Readings
 pub mod Setting
 pub mod SleepActs
 pub mod Standing
 pub mod StandingFound
+pub mod TakingActs
 pub mod Touching
 pub mod YardActs
 pub mod YardMoves
