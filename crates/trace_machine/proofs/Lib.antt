@@ -1,5 +1,6 @@
 pub mod ActsTo
 pub mod Asking
+pub mod Beginning
 pub mod Elements
 pub mod Entering
 pub mod Found
