@@ -1,5 +1,5 @@
 -- Acts at a hand that holds a thread, which keeps it.
-use Rattle.std.proofs.Common.{◌≡◌, ◌≢◌, ℕ, ◌∷◌, [], Bool, true, false, List, Option, Some, None, IsSome, Result, Ok, Err, is_some, is_none, slice_set, length, ◌<◌, ap₂, refl, sym, ap, ◌∙◌, subst, inl, inr}
+use Rattle.std.proofs.Common.{◌≡◌, ℕ, ◌∷◌, [], true, false, Option, Some, None, Ok, Err, is_some, is_none, slice_set, length, ◌<◌, ap₂, refl, sym, ap, ◌∙◌, subst, inl, inr}
 use Rattle.std.proofs.lemmas.Bool.{cases_eq, false≢true}
 use Rattle.std.proofs.lemmas.Option.{same_Some}
 use Rattle.link_arena.specs.Arena.{value_at}
@@ -9,16 +9,15 @@ use Rattle.sched_base.specs.declared.Act.TheVariants as acts
 use Rattle.sched_base.specs.declared.Answer.{Answer}
 use Rattle.sched_base.specs.declared.Answer.TheVariants as answers
 use Rattle.sched_base.specs.declared.Facts.{Facts}
-use Rattle.flat_policy.specs.Policy.Aim.{aim, not_looked}
-use Rattle.flat_policy.specs.Policy.Clusters.{ClusterView, NameStands}
+use Rattle.flat_policy.specs.Policy.Clusters.{NameStands}
 use Rattle.flat_policy.specs.Policy.ClusterSteps.{look_event}
-use Rattle.flat_policy.specs.Policy.Machine.{Hand, MachineState, Yard, aim_answer, aim_outcome, first_refusal, flat_at, kept_hand, look_first, look_first_by, look_outcome, looked_hand, ran_outcome, refuse, with_hand}
+use Rattle.flat_policy.specs.Policy.Machine.{Hand, MachineState, Yard, aim_answer, aim_outcome, first_refusal, flat_at, kept_hand, look_first, look_first_by, look_outcome, looked_hand, ran_outcome, refuse}
 use Rattle.flat_policy.specs.Policy.Setup.{SetupParts, home_of, rate_of}
-use Rattle.migration.specs.Looks.{IsAim, aimed, asked}
+use Rattle.migration.specs.Looks.{IsAim}
 use Rattle.migration.specs.declared.LookFirst.{LookFirst}
 use Rattle.trace_machine.specs.Acting.{ActsTo, IsSet}
 use Rattle.trace_machine.specs.Machines.{MachineView, MeansOver}
-use Rattle.trace_machine.specs.Parts.{Does, PartsView, accepted_at, cluster_at, hand_of, state_of}
+use Rattle.trace_machine.specs.Parts.{Does, PartsView, cluster_at, hand_of, state_of}
 use Rattle.trace_machine.proofs.ActsTo.{accepted_is, quiet_acts, quiet_from, refused_acts, refused_by}
 use Rattle.trace_machine.proofs.Frames.{Frame, names_after, yard_stays}
 use Rattle.trace_machine.specs.Yards.{YardView, standing_of}

@@ -2,9 +2,10 @@
 
 ghost use Rattle.std.specs.Prelude.{◌≡◌, ◌<◌, ◌≤◌, ◌+◌, ◌^◌, Contains, IfOk, IsTrue, None, OnErr, OnOk, length, map};
 ghost use Rattle.sched_base.specs.declared.Step.{Step as StepTaken};
-ghost use Rattle.flat_policy.specs.Policy.Machine.{MachineState, Yard, fits_step, refusal, replies, states_after};
-ghost use Rattle.trace_machine.specs.Acting.{KeepsOn};
+ghost use Rattle.flat_policy.specs.Policy.Machine.{MachineState, Yard, effective_moment, first_refusal, fits_step, refusal, refusals_by, replies, states_after};
+ghost use Rattle.trace_machine.specs.Acting.{Acts, IsSet, KeepsOn};
 ghost use Rattle.trace_machine.specs.Machines.{IsMachine, Means, MeansOver, StepsTo, reply_in};
+ghost use Rattle.trace_machine.specs.Parts.{hand_of, state_of};
 
 use super::Machine;
 use crate::Reply;
@@ -28,6 +29,7 @@ impl<K: Cluster> Machine<K> {
         ensures err { OnErr result (self.new ≡ self.old) }
         ensures accepted { OnErr result ((g : MachineState) → Means self.old g → refusal self.old.parts.setup g s.now ≡ None) }
     {
+        self.stays();
         let now = self.moment_of(s);
         let answer = self.act(s.actor, &s.act, now)?;
         self.steps += 1;
@@ -39,7 +41,12 @@ impl<K: Cluster> Machine<K> {
 
     /// The effective moment of a step: the greatest of its own, the actor's last and the last of
     /// the place of the act.
-    fn moment_of(&self, s: &Step) -> u64 {
+    fn moment_of(&self, s: &Step) -> u64
+        requires machine { IsMachine self.now }
+        requires fits { IsTrue (fits_step self.now.parts.setup s.now) }
+        ensures { (y : Yard) → MeansOver self.now y → result ≡ effective_moment self.now.parts.setup (state_of self.now.parts y) s.now }
+    {
+        self.stays();
         let actor = s.moment.max(self.parts.hand_last(s.actor));
         match s.act {
             Act::Select | Act::Pull { .. } | Act::Refresh => {
@@ -70,7 +77,12 @@ impl<K: Cluster> Machine<K> {
     }
 
     /// What each act does.
-    fn act(&mut self, actor: u8, act: &Act, now: u64) -> Result<Answer, AllocError> {
+    fn act(&mut self, actor: u8, act: &Act, now: u64) -> Result<Answer, AllocError>
+        requires { IsSet self.old actor now act.now }
+        ensures done { OnOk result (λ answer. Acts self.old self.new actor now act.now answer) }
+        ensures err { OnErr result (self.new ≡ self.old) }
+        ensures accepted { OnErr result ((y : Yard) → MeansOver self.old y → (first_refusal (refusals_by self.old.parts.setup (state_of self.old.parts y) actor (hand_of self.old.parts actor) act.now) ≡ None)) }
+    {
         Ok(match *act {
             Act::Make {
                 name,
