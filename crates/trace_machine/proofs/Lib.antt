@@ -16,6 +16,7 @@ pub mod MovingActs
 pub mod PullActs
 pub mod QueueRoom
 pub mod Readings
+pub mod Refusals
 pub mod Setting
 pub mod SleepActs
 pub mod Standing
