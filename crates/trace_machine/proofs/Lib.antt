@@ -19,6 +19,7 @@ pub mod Readings
 pub mod Refusals
 pub mod Setting
 pub mod SleepActs
+pub mod Spots
 pub mod Standing
 pub mod StandingFound
 pub mod TakingActs

@@ -1,4 +1,4 @@
-use Rattle.std.proofs.Common.{◌≡◌, ◌≤◌, ap, refl, sym, subst, ◌∙◌, arith}
+use Rattle.std.proofs.Common.{refl, arith}
 use Rattle.trace_machine.specs.Machines.{MachineView}
 use Rattle.trace_machine.proofs.Beginning.{new_means}
 use Rattle.trace_machine.proofs.machine.Machine.new.Goals as goal
