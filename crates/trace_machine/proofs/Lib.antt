@@ -1,5 +1,6 @@
 pub mod Asking
 pub mod InHands
+pub mod Looking
 pub mod Making
 pub mod Readings
 pub mod Setting
