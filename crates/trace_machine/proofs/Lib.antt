@@ -7,8 +7,6 @@ pub mod Found
 pub mod Frames
 pub mod Histories
 pub mod InHands
-pub mod Keeping
-pub mod LiveNames
 pub mod Looking
 pub mod Making
 pub mod Moving
