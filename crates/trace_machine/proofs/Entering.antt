@@ -58,12 +58,12 @@ enters p mid new a now c head t slot pri keeps ready below later held released e
     let x = entered_in v t head now slot in
     let at : cluster_at mid c ≡ v = ap (λ (q : PartsView). cluster_at q c) released in
     let changes : ChangesAt mid new c x 1 1 =
-      subst (λ (w : ClusterView). ChangesAt mid new c (entered_in w t head now slot) 1 1) at entered in
+    subst (λ (w : ClusterView). ChangesAt mid new c (entered_in w t head now slot) 1 1) at entered in
     let comes : (y : Yard) → accepted_at p y a now (acts.Enter c head) ≡ enter_outcome_by p.setup (state_of p y) a c now (enter_event v.setup v.number t head (moment_at v now) v.flat) =
-      λ y. ap (λ (o : Option Facts). enter_outcome p.setup (state_of p y) a c head now o) held
-        ∙ ap (λ (s : Flat). enter_outcome_by p.setup (state_of p y) a c now (enter_event p.setup c t head now s)) (flat_here p y c)
-        ∙ ap (λ (e : Event). enter_outcome_by p.setup (state_of p y) a c now e)
-            (in_place (λ s k m. enter_event s k t head m v.flat) p.setup c now v (ready.serve c below) later) in
+    λ y. ap (λ (o : Option Facts). enter_outcome p.setup (state_of p y) a c head now o) held
+    ∙ ap (λ (s : Flat). enter_outcome_by p.setup (state_of p y) a c now (enter_event p.setup c t head now s)) (flat_here p y c)
+    ∙ ap (λ (e : Event). enter_outcome_by p.setup (state_of p y) a c now e)
+    (in_place (λ s k m. enter_event s k t head m v.flat) p.setup c now v (ready.serve c below) later) in
     does_at p new c x a h now (acts.Enter c head) (answers.Pri pri) (entered_parts p mid new c x a h released changes.parts) (record {
       there = there_of p a c ready below;
       goes_on = goes_entered v x t head now slot mid new c (sym at) refl changes;
@@ -84,7 +84,7 @@ stands_entered p mid new a now c head t slot arrival keeps ready below released 
     let v = cluster_at mid c in
     let x = entered_in v t head now slot in
     let here : cluster_at new c ≡ x =
-      ap (λ (q : PartsView). cluster_at q c) (entered_parts p mid new c x a (empty_hand p.setup now) released changes.parts)
-      ∙ cluster_changed p c x a (empty_hand p.setup now) (there_of p a c ready below) in
+    ap (λ (q : PartsView). cluster_at q c) (entered_parts p mid new c x a (empty_hand p.setup now) released changes.parts)
+    ∙ cluster_changed p c x a (empty_hand p.setup now) (there_of p a c ready below) in
     subst (λ (w : ClusterView). NameStands w slot arrival t.name) (sym here)
     (subst (λ k. NameStands x slot k t.name) (sym arrives) ((keeps v changes.kept).entered t head now slot free))

@@ -1,5 +1,5 @@
 pub mod Asking
-pub mod Elements
+pub mod Changes
 pub mod Entering
 pub mod InHands
 pub mod Moving

@@ -72,22 +72,22 @@ select_is : (setup : SetupParts) (c now : ℕ) (v : ClusterView) → Serves setu
 select_is setup c now v is later on =
     in_place (λ s k m. select_event s k m v.flat) setup c now v is later
     ∙ ap (λ b. if b then record { answer = got (pick_of v now); thread = facts_of (pick_of v now); flat = selected (cluster_times v.setup v.number) (moment_at v now) v.flat }
-        else record { answer = answers.Off; thread = None; flat = touched (moment_at v now) v.flat }) on
+    else record { answer = answers.Off; thread = None; flat = touched (moment_at v now) v.flat }) on
     ∙ ap (λ (s : Flat). record { answer = got (pick_of v now); thread = facts_of (pick_of v now); flat = s })
-        (sym (flat_left (pick_of v now) (selected (cluster_times v.setup v.number) (moment_at v now) v.flat) v))
+    (sym (flat_left (pick_of v now) (selected (cluster_times v.setup v.number) (moment_at v now) v.flat) v))
 
 select_off : (setup : SetupParts) (c now : ℕ) (s : Flat) → s.on ≡ false
     → select_event setup c now s ≡ record { answer = answers.Off; thread = None; flat = touched now s }
 select_off setup c now s on =
     ap (λ b. if b then record { answer = got (pick (cluster_times setup c) now s); thread = facts_of (pick (cluster_times setup c) now s); flat = selected (cluster_times setup c) now s }
-        else record { answer = answers.Off; thread = None; flat = touched now s }) on
+    else record { answer = answers.Off; thread = None; flat = touched now s }) on
 
 offer_is : (setup : SetupParts) (c to now : ℕ) (v : ClusterView) → Serves setup (2 ^ 50) c v → v.flat.last ≤ now
     → offer_event setup c to now v.flat ≡ record { answer = got (offer_of v to); thread = facts_of (offer_of v to); flat = (after_offer v to now).flat }
 offer_is setup c to now v is later =
     in_place (λ s k m. offer_event s k to m v.flat) setup c now v is later
     ∙ ap (λ (s : Flat). record { answer = got (offer_of v to); thread = facts_of (offer_of v to); flat = s })
-        (sym (flat_left (offer_of v to) (flat_after_offer (moment_at v now) v.flat (offer_of v to)) v))
+    (sym (flat_left (offer_of v to) (flat_after_offer (moment_at v now) v.flat (offer_of v to)) v))
 
 -- an act that takes a thread out of a queue, where there is one, into a hand
 takes : (p new : PartsView) (a now c : ℕ) (act : Act) (answer : Answer) (taken : Option Facts) (x : ClusterView) → c < length p.clusters
@@ -120,8 +120,8 @@ selects p mid new a now c keeps ready home below later on changes sets =
     let later_here : v.flat.last ≤ now = subst (λ k. (cluster_at p k).flat.last ≤ now) (sym home) later in
     takes p new a now c acts.Select (got (pick_of v now)) (facts_of (pick_of v now)) (after_select v now) (there_of p a c ready below)
     (λ y. ap (λ k. taking p.setup (state_of p y) a (hand_of p a) k now (select_event p.setup k now (flat_at (state_of p y) k))) (sym home)
-        ∙ ap (λ (s : Flat). taking p.setup (state_of p y) a (hand_of p a) c now (select_event p.setup c now s)) (flat_here p y c)
-        ∙ ap (λ (e : Event). taking p.setup (state_of p y) a (hand_of p a) c now e) (select_is p.setup c now v (ready.serve c below) later_here on))
+    ∙ ap (λ (s : Flat). taking p.setup (state_of p y) a (hand_of p a) c now (select_event p.setup c now s)) (flat_here p y c)
+    ∙ ap (λ (e : Event). taking p.setup (state_of p y) a (hand_of p a) c now e) (select_is p.setup c now v (ready.serve c below) later_here on))
     (goes_without p mid c (pick_of v now) _ changes)
     (λ slot arrival name other stands. (keeps v changes.kept).selecting now slot arrival name (other_entry name (pick_of v now) other) stands)
     (hand_after p mid new c (after_select v now) a (λ s h. taking_hand s h (facts_of (pick_of v now)) now) changes.parts sets)
@@ -136,9 +136,9 @@ selects_off p mid new a now c ready home below later on changes sets =
     let v = cluster_at p c in
     let later_here : v.flat.last ≤ now = subst (λ k. (cluster_at p k).flat.last ≤ now) (sym home) later in
     let comes : (y : Yard) → accepted_at p y a now acts.Select ≡ taking p.setup (state_of p y) a (hand_of p a) c now (record { answer = answers.Off; thread = None; flat = touched now v.flat }) =
-      λ y. ap (λ k. taking p.setup (state_of p y) a (hand_of p a) k now (select_event p.setup k now (flat_at (state_of p y) k))) (sym home)
-        ∙ ap (λ (s : Flat). taking p.setup (state_of p y) a (hand_of p a) c now (select_event p.setup c now s)) (flat_here p y c)
-        ∙ ap (λ (e : Event). taking p.setup (state_of p y) a (hand_of p a) c now e) (select_off p.setup c now v.flat on) in
+    λ y. ap (λ k. taking p.setup (state_of p y) a (hand_of p a) k now (select_event p.setup k now (flat_at (state_of p y) k))) (sym home)
+    ∙ ap (λ (s : Flat). taking p.setup (state_of p y) a (hand_of p a) c now (select_event p.setup c now s)) (flat_here p y c)
+    ∙ ap (λ (e : Event). taking p.setup (state_of p y) a (hand_of p a) c now e) (select_off p.setup c now v.flat on) in
     acts_quietly p new a now c acts.Select answers.Off v (after_touch v now) v.flat.on (kept_hand (hand_of p a) now) below ready later_here refl (record { is = refl })
     (λ y. ap (λ (o : Outcome). o.answer) (comes y))
     (λ y. ap (λ (o : Outcome). o.state) (comes y))
@@ -154,8 +154,8 @@ offers p mid new a now c to keeps ready home below later changes sets =
     let v = cluster_at p c in
     takes p new a now c (acts.Offer c) (got (offer_of v to)) (facts_of (offer_of v to)) (after_offer v to now) (there_of p a c ready below)
     (λ y. ap (λ k. taking p.setup (state_of p y) a (hand_of p a) c now (offer_event p.setup c k now (flat_at (state_of p y) c))) (sym home)
-        ∙ ap (λ (s : Flat). taking p.setup (state_of p y) a (hand_of p a) c now (offer_event p.setup c to now s)) (flat_here p y c)
-        ∙ ap (λ (e : Event). taking p.setup (state_of p y) a (hand_of p a) c now e) (offer_is p.setup c to now v (ready.serve c below) later))
+    ∙ ap (λ (s : Flat). taking p.setup (state_of p y) a (hand_of p a) c now (offer_event p.setup c to now s)) (flat_here p y c)
+    ∙ ap (λ (e : Event). taking p.setup (state_of p y) a (hand_of p a) c now e) (offer_is p.setup c to now v (ready.serve c below) later))
     (goes_without p mid c (offer_of v to) _ changes)
     (λ slot arrival name other stands. (keeps v changes.kept).offering to now slot arrival name (other_entry name (offer_of v to) other) stands)
     (hand_after p mid new c (after_offer v to now) a (λ s h. taking_hand s h (facts_of (offer_of v to)) now) changes.parts sets)
@@ -180,16 +180,16 @@ pulls p mid new a now c name ticket e t keeps ready home below later stands name
     let v = cluster_at p c in
     let later_here : v.flat.last ≤ now = subst (λ k. (cluster_at p k).flat.last ≤ now) (sym home) later in
     let changes : ChangesAt p mid c (after_pull v (Some e) now) 0 1 =
-      subst (λ (o : Option Queued). ChangesAt p mid c (after_pull v o now) 0 1) stands changed in
+    subst (λ (o : Option Queued). ChangesAt p mid c (after_pull v o now) 0 1) stands changed in
     takes p new a now c (acts.Pull name) answers.Yes (Some e.facts) (after_pull v (Some e) now) (there_of p a c ready below)
     (λ y. ap (λ k. pull_outcome p.setup (state_of p y) a (hand_of p a) k now (named_entry (flat_at (state_of p y) k) name)) (sym home)
-        ∙ ap (λ (s : Flat). pull_outcome p.setup (state_of p y) a (hand_of p a) c now (named_entry s name)) (flat_here p y c)
-        ∙ ap (λ (o : Option Queued). pull_outcome p.setup (state_of p y) a (hand_of p a) c now o) named
-        ∙ ap (λ (s : Flat). taking p.setup (state_of p y) a (hand_of p a) c now (pull_event e now s)) (flat_here p y c)
-        ∙ ap (λ m. taking p.setup (state_of p y) a (hand_of p a) c now (pull_event e m v.flat)) (sym (now_is_effective now v.flat.last later_here))
-        )
+    ∙ ap (λ (s : Flat). pull_outcome p.setup (state_of p y) a (hand_of p a) c now (named_entry s name)) (flat_here p y c)
+    ∙ ap (λ (o : Option Queued). pull_outcome p.setup (state_of p y) a (hand_of p a) c now o) named
+    ∙ ap (λ (s : Flat). taking p.setup (state_of p y) a (hand_of p a) c now (pull_event e now s)) (flat_here p y c)
+    ∙ ap (λ m. taking p.setup (state_of p y) a (hand_of p a) c now (pull_event e m v.flat)) (sym (now_is_effective now v.flat.last later_here))
+    )
     (goes_without p mid c (Some e) _ changes)
     (λ slot arrival other_name other stand.
-        (keeps v changes.kept).pulling e now slot arrival other_name (found_stands (λ (q : Queued). q.facts.name == name) v.flat.entries e named) other stand)
+    (keeps v changes.kept).pulling e now slot arrival other_name (found_stands (λ (q : Queued). q.facts.name == name) v.flat.entries e named) other stand)
     (hand_after p mid new c (after_pull v (Some e) now) a (λ s h. filled_hand s e.facts now) changes.parts
-        (sets ∙ ap (λ (u : Facts). rehanded mid a (filled_hand mid.setup u now)) is))
+    (sets ∙ ap (λ (u : Facts). rehanded mid a (filled_hand mid.setup u now)) is))

@@ -9,7 +9,7 @@ use Rattle.trace_machine.proofs.parts.Parts.enter.Goals as goal
 pub enter_at-requires-clause-fits : goal.enter_at-requires-clause-fits
 enter_at-requires-clause-fits g c =
     fits_there c.args.self.now c.release-thread.new.self c.args.actor c.args.c c.args.now c.release-thread.result
-        c.requires.ready c.requires.cluster c.release-thread.ensures.thread c.release-thread.ensures.parts
+    c.requires.ready c.requires.cluster c.release-thread.ensures.thread c.release-thread.ensures.parts
 
 pub returns : goal.returns
 returns g c =
@@ -24,5 +24,5 @@ returns g c =
       stands = λ u held.
           subst (λ (w : Facts). NameStands (cluster_at new c.args.c) c.enter_at.result.slot c.enter_at.result.arrival w.name) (same_Some t u (sym c.release-thread.ensures.thread ∙ held))
           (stands_entered old mid new c.args.actor c.args.now c.args.c c.args.head t c.enter_at.result.slot c.enter_at.result.arrival c.calls_keep_standing.ensures
-              c.requires.ready c.requires.cluster c.release-thread.ensures.parts c.enter_at.ensures.changes c.enter_at.ensures.slot c.enter_at.ensures.arrival);
+          c.requires.ready c.requires.cluster c.release-thread.ensures.parts c.enter_at.ensures.changes c.enter_at.ensures.slot c.enter_at.ensures.arrival);
     }

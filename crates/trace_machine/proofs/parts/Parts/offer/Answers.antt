@@ -17,6 +17,6 @@ returns g c =
     let offered = offer_of (cluster_at old c.args.from) c.home-home.result in
     subst (λ (answer : Answer). Does old c.take.new.self c.args.actor c.args.now (acts.Offer c.args.from) answer) (sym (c.take.ensures.answer offered c.offer_at-offered.ensures.offered))
     (offers old mid c.take.new.self c.args.actor c.args.now c.args.from c.home-home.result c.calls_keep_standing.ensures
-        c.requires.ready c.home-home.ensures.home c.requires.cluster c.requires.later
-        c.offer_at-offered.ensures.changes
-        (c.take.ensures.parts ∙ ap (λ (given : Option Facts). rehanded mid c.args.actor (taking_hand mid.setup (hand_of mid c.args.actor) given c.args.now)) c.offer_at-offered.ensures.offered))
+    c.requires.ready c.home-home.ensures.home c.requires.cluster c.requires.later
+    c.offer_at-offered.ensures.changes
+    (c.take.ensures.parts ∙ ap (λ (given : Option Facts). rehanded mid c.args.actor (taking_hand mid.setup (hand_of mid c.args.actor) given c.args.now)) c.offer_at-offered.ensures.offered))

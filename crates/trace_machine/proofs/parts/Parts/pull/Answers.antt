@@ -12,8 +12,8 @@ returns g c =
     let old = c.args.self.now in
     let home = c.home-home.result in
     let queued : IsQueuedAs (cluster_at old home) c.args.name c.args.ticket =
-      subst (λ k. IsQueuedAs (cluster_at old k) c.args.name c.args.ticket) (sym c.home-home.ensures.home) c.requires.queued in
+    subst (λ k. IsQueuedAs (cluster_at old k) c.args.name c.args.ticket) (sym c.home-home.ensures.home) c.requires.queued in
     let is = sym c.in-Some.is ∙ c.pull_at.ensures.pulled ∙ ap (λ (o : Option Queued). facts_of o) queued.1 in
     pulls old c.pull_at.new.self c.fill.new.self c.args.actor c.args.now home c.args.name c.args.ticket queued.0 c.in-Some.thread c.calls_keep_standing.ensures
-        c.requires.ready c.home-home.ensures.home c.home-home.ensures.below c.requires.later queued.1 queued.2 (same_Some c.in-Some.thread queued.0.facts is)
-        c.pull_at.ensures.changes c.fill.ensures
+    c.requires.ready c.home-home.ensures.home c.home-home.ensures.below c.requires.later queued.1 queued.2 (same_Some c.in-Some.thread queued.0.facts is)
+    c.pull_at.ensures.changes c.fill.ensures

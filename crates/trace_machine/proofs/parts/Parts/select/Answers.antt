@@ -22,6 +22,6 @@ returns g c =
     let picked = pick_of (cluster_at old c.home-home.result) c.args.now in
     subst (λ (answer : Answer). Does old c.take.new.self c.args.actor c.args.now acts.Select answer) (sym (c.take.ensures.answer picked c.select_at-picked.ensures.picked))
     (selects old mid c.take.new.self c.args.actor c.args.now c.home-home.result c.calls_keep_standing.ensures
-        c.requires.ready c.home-home.ensures.home c.home-home.ensures.below c.requires.later (sym c.is_on.ensures ∙ c.if-not-is_on.false)
-        c.select_at-picked.ensures.changes
-        (c.take.ensures.parts ∙ ap (λ (given : Option Facts). rehanded mid c.args.actor (taking_hand mid.setup (hand_of mid c.args.actor) given c.args.now)) c.select_at-picked.ensures.picked))
+    c.requires.ready c.home-home.ensures.home c.home-home.ensures.below c.requires.later (sym c.is_on.ensures ∙ c.if-not-is_on.false)
+    c.select_at-picked.ensures.changes
+    (c.take.ensures.parts ∙ ap (λ (given : Option Facts). rehanded mid c.args.actor (taking_hand mid.setup (hand_of mid c.args.actor) given c.args.now)) c.select_at-picked.ensures.picked))
