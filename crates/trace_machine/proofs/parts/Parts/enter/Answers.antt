@@ -1,3 +1,4 @@
+-- The thread leaves the hand, and enters the queue.
 use Rattle.std.proofs.Common.{sym, ◌∙◌, subst}
 use Rattle.std.proofs.lemmas.Option.{same_Some}
 use Rattle.sched_base.specs.declared.Facts.{Facts}

@@ -1,5 +1,5 @@
 -- What the call says of the element, of the cluster by its number.
-use Rattle.std.proofs.Common.{sym, ap, ◌∙◌}
+use Rattle.std.proofs.Common.{◌≡◌, sym, subst}
 use Rattle.flat_policy.specs.Policy.Clusters.{ClusterView, after_offer, offer_of}
 use Rattle.flat_policy.specs.Policy.ClusterSteps.{facts_of}
 use Rattle.trace_machine.proofs.Changes.{cluster_written}
@@ -10,7 +10,7 @@ pub returns-clause-offered : goal.returns-clause-offered
 returns-clause-offered g c =
     let at = cluster_read g.K.Cluster.view c.self.inside.setup c.self.inside.clusters.items c.self.inside.hands.items c.args.self.now c.args.from c.index_mut-cluster.result.now
     c.self.view_is c.requires.there c.index_mut-cluster.ensures.value in
-    c.offer.ensures.offered ∙ ap (λ (v : ClusterView). facts_of (offer_of v c.args.to)) (sym at)
+    subst (λ (v : ClusterView). c.offer.result ≡ facts_of (offer_of v c.args.to)) (sym at) c.offer.ensures.offered
 
 pub returns-clause-changes : goal.returns-clause-changes
 returns-clause-changes g c =

@@ -1,3 +1,4 @@
+-- The entry that the ticket names comes into the hand.
 use Rattle.std.proofs.Common.{Option, sym, ap, ◌∙◌, subst}
 use Rattle.std.proofs.lemmas.Option.{same_Some}
 use Rattle.flat_policy.specs.Policy.ClusterSteps.{facts_of}
