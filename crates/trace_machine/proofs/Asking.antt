@@ -1,5 +1,5 @@
 -- What a hand in code is asked.
-use Rattle.std.proofs.Common.{◌≡◌, ℕ, ◌<◌, ◌≤◌, List, Option, Result, Some, refl, sym, ap, ◌∙◌, subst, arith}
+use Rattle.std.proofs.Common.{◌≡◌, ℕ, ◌<◌, List, Option, Result, Some, sym, ap, ◌∙◌, subst, arith}
 use Rattle.std.proofs.lemmas.Option.{same_Some}
 use Rattle.sched_base.specs.declared.Facts.{Facts}
 use Rattle.flat_policy.specs.Laws.Sound.{FittingPrefersAmong}
@@ -29,7 +29,7 @@ pub aims : (p : PartsView) (a : ℕ) (setup : SetupParts) (h : HeldHand) (t f to
     → IsAim p.setup (looks_among p.setup h.looks) told answer → IsAim p.setup (hand_of p a).looks t answer
 aims p a setup h t f told answer same is held tells thread aim =
     let looks_is : looks_among p.setup h.looks ≡ (hand_of p a).looks =
-      ap (λ (s : SetupParts). looks_among s h.looks) (sym same) ∙ ap (λ (g : Hand). g.looks) (sym is) in
+    ap (λ (s : SetupParts). looks_among s h.looks) (sym same) ∙ ap (λ (g : Hand). g.looks) (sym is) in
     let facts_is : told ≡ t = tells ∙ same_Some f t (sym held ∙ ap (λ (g : Hand). g.thread) (sym is) ∙ thread) in
     subst (λ (k : Facts). IsAim p.setup (hand_of p a).looks k answer) facts_is
     (subst (λ (ls : List (Option Look)). IsAim p.setup ls told answer) looks_is aim)

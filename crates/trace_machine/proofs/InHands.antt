@@ -1,5 +1,5 @@
 -- What happens at a hand alone.
-use Rattle.std.proofs.Common.{◌≡◌, ℕ, ◌<◌, List, Option, Some, length, get_or, slice_set, refl, sym, ap, ◌∙◌}
+use Rattle.std.proofs.Common.{◌≡◌, ℕ, ◌<◌, List, Option, Some, length, get_or, slice_set, sym, ap, ◌∙◌}
 use Rattle.sched_base.specs.Facts.{charged}
 use Rattle.sched_base.specs.declared.Facts.{Facts}
 use Rattle.sched_base.specs.declared.Act.TheVariants as acts
@@ -9,7 +9,7 @@ use Rattle.flat_policy.specs.Policy.Aim.{Look}
 use Rattle.flat_policy.specs.Policy.Clusters.{ClusterView}
 use Rattle.flat_policy.specs.Policy.Machine.{Hand, Outcome, Yard, kept_hand, no_looks, ran_outcome, ran_outcome_by}
 use Rattle.flat_policy.specs.Policy.Setup.{SetupParts, home_of, rate_of}
-use Rattle.trace_machine.specs.Parts.{Does, PartsView, accepted_at, hand_in, hand_of, state_of}
+use Rattle.trace_machine.specs.Parts.{Does, PartsView, accepted_at, hand_of, state_of}
 use Rattle.trace_machine.specs.declared.hand.HeldHand.{HeldHand}
 use Rattle.trace_machine.proofs.Readings.{hand_read, hand_written, parts_in}
 use Rattle.trace_machine.proofs.Setting.{does_in_hand, rehanded}
@@ -49,9 +49,9 @@ pub runs : (p new : PartsView) (a now us rate told : ℕ) (t charged_t : Facts)
     → Does p new a now (acts.Ran us) (answers.Work told)
 runs p new a now us rate told t charged_t held rated charges tells changes =
     let comes : (y : Yard) → accepted_at p y a now (acts.Ran us) ≡ ran_outcome_by (state_of p y) a (hand_of p a) now charged_t =
-      λ y. ap (ran_outcome p.setup (state_of p y) a (hand_of p a) us now) held
-        ∙ ap (λ r. ran_outcome_by (state_of p y) a (hand_of p a) now (charged us r t)) (sym rated)
-        ∙ ap (λ (f : Facts). ran_outcome_by (state_of p y) a (hand_of p a) now f) (sym charges) in
+    λ y. ap (ran_outcome p.setup (state_of p y) a (hand_of p a) us now) held
+    ∙ ap (λ r. ran_outcome_by (state_of p y) a (hand_of p a) now (charged us r t)) (sym rated)
+    ∙ ap (λ (f : Facts). ran_outcome_by (state_of p y) a (hand_of p a) now f) (sym charges) in
     does_in_hand p new a (record (hand_of p a) { thread = Some charged_t; last = now }) now (acts.Ran us) (answers.Work told) changes
     (λ y. ap (λ (o : Outcome). o.answer) (comes y) ∙ ap (λ k. answers.Work k) (sym tells))
     (λ y. ap (λ (o : Outcome). o.state) (comes y))

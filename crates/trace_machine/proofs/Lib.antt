@@ -3,6 +3,7 @@ pub mod Changes
 pub mod Entering
 pub mod InHands
 pub mod Moving
+pub mod Making
 pub mod Readings
 pub mod Setting
 pub mod Touching

@@ -1,5 +1,5 @@
 -- The clusters and hands that lie in code, read and changed as those of the parts.
-use Rattle.std.proofs.Common.{◌≡◌, ℕ, ◌<◌, List, length, map, get_or, slice_set, refl, sym, ap, ◌∙◌, subst}
+use Rattle.std.proofs.Common.{◌≡◌, ℕ, ◌<◌, List, length, map, get_or, slice_set, sym, ap, ◌∙◌, subst}
 use Rattle.std.proofs.lemmas.List.{get_or-map, length-map, map-set}
 use Rattle.flat_policy.specs.Policy.Clusters.{ClusterView}
 use Rattle.flat_policy.specs.Policy.Machine.{Hand, no_hand}

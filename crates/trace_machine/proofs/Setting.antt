@@ -1,14 +1,14 @@
 -- Parts of which one cluster and one hand change.
-use Rattle.std.proofs.Common.{◌≡◌, ◌≢◌, ℕ, ◌+◌, ◌*◌, ◌<◌, ◌≤◌, ◌^◌, List, Option, Some, None, length, map, max, get_or, slice_set, slice_index_or, refl, sym, ap, ◌∙◌, subst, inl, inr, arith}
+use Rattle.std.proofs.Common.{◌≡◌, ◌≢◌, ℕ, ◌+◌, ◌<◌, ◌≤◌, List, length, map, max, slice_set, refl, sym, ap, ◌∙◌, subst, inl, inr, arith}
 use Rattle.std.proofs.Math.ListN.{get_or-map}
 use Rattle.std.proofs.Math.Nat.{max-eq_left}
 use Rattle.std.proofs.lemmas.Bool.{cases_eq}
-use Rattle.std.proofs.lemmas.List.{get_or_default, get_or-set_other, get_or-set_same, length-set, map-set}
+use Rattle.std.proofs.lemmas.List.{get_or-set_other, get_or-set_same, map-set}
 use Rattle.sched_base.specs.declared.Act.{Act}
 use Rattle.sched_base.specs.declared.Answer.{Answer}
 use Rattle.flat_policy.specs.Laws.Kept.{RisesBy}
 use Rattle.flat_policy.specs.Policy.Clusters.{ClusterView, NameStands, SameRoom}
-use Rattle.flat_policy.specs.Policy.Machine.{Hand, MachineState, Yard, flat_at, hand_at, no_hand, with_flat, with_hand}
+use Rattle.flat_policy.specs.Policy.Machine.{Hand, Yard, flat_at, hand_at, no_hand, with_flat, with_hand}
 use Rattle.flat_policy.specs.Policy.Queue.{Flat}
 use Rattle.flat_policy.specs.Policy.Setup.{SetupParts, cluster_count}
 use Rattle.trace_machine.specs.Parts.{AllServe, Does, IsOtherThread, PartsView, Serves, accepted_at, cluster_at, hand_of, no_cluster, state_of}

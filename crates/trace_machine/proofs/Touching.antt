@@ -1,12 +1,12 @@
 -- Acts at a cluster that move no thread.
-use Rattle.std.proofs.Common.{◌≡◌, ℕ, ◌+◌, ◌<◌, ◌≤◌, Bool, true, false, if◌then◌else◌, ◌^◌, cond, Option, Some, None, IsSome, List, [], ◌∷◌, ◌==◌, length, map, max, fold, get_or, slice_set, refl, sym, ap, ◌∙◌, subst, arith}
+use Rattle.std.proofs.Common.{◌≡◌, ℕ, ◌<◌, ◌≤◌, Bool, true, false, if◌then◌else◌, ◌^◌, Option, Some, None, IsSome, List, [], ◌∷◌, ◌==◌, length, fold, get_or, slice_set, refl, sym, ap, ◌∙◌, subst, arith}
 use Rattle.std.proofs.lemmas.Bool.{cond_both, false≢true}
 use Rattle.std.proofs.lemmas.List.{length-map}
 use Rattle.flat_policy.specs.Laws.Clusters.{CallsKeepStanding}
 use Rattle.flat_policy.specs.Laws.Kept.{RisesBy}
 use Rattle.flat_policy.specs.Policy.Aim.{Look, load}
-use Rattle.flat_policy.specs.Policy.ClusterSteps.{look_event, power_event, refresh_event, touched}
-use Rattle.flat_policy.specs.Policy.Clusters.{ClusterView, IsCluster, NameStands, SameRoom, after_refresh, after_touch, after_turn, moment_at, with_queue}
+use Rattle.flat_policy.specs.Policy.ClusterSteps.{look_event, power_event, touched}
+use Rattle.flat_policy.specs.Policy.Clusters.{ClusterView, IsCluster, NameStands, after_refresh, after_touch, after_turn, moment_at, with_queue}
 use Rattle.flat_policy.specs.Policy.Machine.{Hand, Outcome, Yard, flat_at, kept_hand, leaving_hand, look_outcome, look_outcome_by, look_told, looked_hand, with_flat, with_hand}
 use Rattle.flat_policy.specs.Policy.Moves.{with_next_turn}
 use Rattle.flat_policy.specs.Policy.Precedence.{clutch_priority}
@@ -22,7 +22,7 @@ use Rattle.migration.specs.Looks.{looks_among}
 use Rattle.trace_machine.specs.declared.hand.HeldHand.{HeldHand}
 use Rattle.trace_machine.proofs.Readings.{both_written, hand_read, parts_in}
 use Rattle.trace_machine.specs.Parts.{Does, IsReady, PartsView, Serves, accepted_at, cluster_at, hand_of, state_of}
-use Rattle.trace_machine.proofs.Setting.{ActsAt, GoesOn, changed, does_at, flat_here, now_is_effective, rises_less, rises_none}
+use Rattle.trace_machine.proofs.Setting.{GoesOn, changed, does_at, flat_here, now_is_effective, rises_less, rises_none}
 
 turns_keep_length : (before s : Flat) (ks : List Clutch) → length (fold (turn_on_refresh before) s ks).entries ≡ length s.entries
 turns_keep_length before s [] = refl
@@ -58,12 +58,12 @@ pub refreshes : (p new : PartsView) (a now count c : ℕ) (v x : ClusterView)
 refreshes p new a now count c v x home below keeps cluster ready later read is rises counted changes =
     let h = kept_hand (hand_of p a) now in
     let effective : moment_at v now ≡ now =
-      now_is_effective now v.flat.last (subst (λ (w : ClusterView). w.flat.last ≤ now) read (subst (λ k. (cluster_at p k).flat.last ≤ now) (sym home) later)) in
+    now_is_effective now v.flat.last (subst (λ (w : ClusterView). w.flat.last ≤ now) read (subst (λ k. (cluster_at p k).flat.last ≤ now) (sym home) later)) in
     let setup_is : v.setup ≡ p.setup = ap (λ (w : ClusterView). w.setup) (sym read) ∙ (ready.serve c below).of_setup in
     let flat_is : x.flat ≡ refreshed (group_count p.setup) v.flat now =
-      ap (λ (w : ClusterView). w.flat) is
-      ∙ ap (λ k. refreshed (group_count v.setup) v.flat k) effective
-      ∙ ap (λ (s : SetupParts). refreshed (group_count s) v.flat now) setup_is in
+    ap (λ (w : ClusterView). w.flat) is
+    ∙ ap (λ k. refreshed (group_count v.setup) v.flat k) effective
+    ∙ ap (λ (s : SetupParts). refreshed (group_count s) v.flat now) setup_is in
     does_at p new c x a h now acts.Refresh (answers.New count) changes (record {
       there = subst (λ n. c < n) (sym ready.clusters) below;
       goes_on = subst (λ (w : ClusterView). GoesOn w x) (sym read) (goes_refreshed v x now is rises);
@@ -99,9 +99,9 @@ pub acts_quietly : (p new : PartsView) (a now c : ℕ) (act : Act) (answer : Ans
     → Does p new a now act answer
 acts_quietly p new a now c act answer v x on h below ready later read quiet answered leads changes =
     let effective : moment_at v now ≡ now =
-      now_is_effective now v.flat.last (subst (λ (w : ClusterView). w.flat.last ≤ now) read later) in
+    now_is_effective now v.flat.last (subst (λ (w : ClusterView). w.flat.last ≤ now) read later) in
     let flat_is : x.flat ≡ record v.flat { on = on; last = now } =
-      ap (λ (w : ClusterView). w.flat) quiet.is ∙ ap (λ l. record v.flat { on = on; last = l }) effective in
+    ap (λ (w : ClusterView). w.flat) quiet.is ∙ ap (λ l. record v.flat { on = on; last = l }) effective in
     does_at p new c x a h now act answer changes (record {
       there = subst (λ n. c < n) (sym ready.clusters) below;
       goes_on = subst (λ (w : ClusterView). GoesOn w x) (sym read) (goes_quiet v x on (moment_at v now) quiet);
@@ -123,7 +123,7 @@ turns p new a now c act v x on below ready later read is comes changes =
     acts_quietly p new a now c act answers.Yes v x on h below ready later read (record { is = is })
     (λ y. ap (λ (o : Outcome). o.answer) (comes y))
     (λ y. ap (λ (o : Outcome). o.state) (comes y)
-        ∙ ap (λ (s : Flat). with_hand a h (with_flat c (record s { on = on; last = now }) (state_of p y))) (flat_of_view p c v y read))
+    ∙ ap (λ (s : Flat). with_hand a h (with_flat c (record s { on = on; last = now }) (state_of p y))) (flat_of_view p c v y read))
     changes
 
 -- a look at a cluster that is off
@@ -135,33 +135,34 @@ pub looks_off : (p new : PartsView) (a now c : ℕ) (v x : ClusterView) (t : Fac
 looks_off p new a now c v x t below ready later read is held dark changes =
     let h = looked_hand (hand_of p a) c answers.Off now in
     let comes : (y : Yard) → accepted_at p y a now (acts.Look c) ≡ look_outcome_by (state_of p y) a (hand_of p a) c now (record { answer = answers.Off; thread = None; flat = touched now v.flat }) =
-      λ y. ap (look_outcome p.setup (state_of p y) a (hand_of p a) c now) held
-        ∙ ap (λ (s : Flat). look_outcome_by (state_of p y) a (hand_of p a) c now (look_event p.setup c t.bucket now s)) (flat_of_view p c v y read)
-        ∙ ap (λ b. look_outcome_by (state_of p y) a (hand_of p a) c now (record { answer = if b then answers.Load (load (times_for (cluster_times p.setup c) t.bucket) (cpus_of p.setup c) v.flat t.bucket) else answers.Off; thread = None; flat = touched now v.flat })) dark in
+    λ y. ap (look_outcome p.setup (state_of p y) a (hand_of p a) c now) held
+    ∙ ap (λ (s : Flat). look_outcome_by (state_of p y) a (hand_of p a) c now (look_event p.setup c t.bucket now s)) (flat_of_view p c v y read)
+    ∙ ap (λ b. look_outcome_by (state_of p y) a (hand_of p a) c now (record { answer = if b then answers.Load (load (times_for (cluster_times p.setup c) t.bucket) (cpus_of p.setup c) v.flat t.bucket) else answers.Off; thread = None; flat = touched now v.flat })) dark in
     acts_quietly p new a now c (acts.Look c) answers.Off v x v.flat.on h below ready later read (record { is = is })
     (λ y. ap (λ (o : Outcome). o.answer) (comes y))
     (λ y. ap (λ (o : Outcome). o.state) (comes y))
     changes
 
 -- a look at a cluster that is on
-pub looks_on : (p new : PartsView) (a now c seen : ℕ) (v x : ClusterView) (t : Facts)
+pub looks_on : (p new : PartsView) (a now c seen : ℕ) (v x : ClusterView) (t told : Facts)
     → c < cluster_count p.setup → IsReady p a → (cluster_at p c).flat.last ≤ now → cluster_at p c ≡ v → x ≡ after_touch v now
-    → (hand_of p a).thread ≡ Some t → v.flat.on ≡ true
-    → seen ≡ load (times_for (cluster_times v.setup v.number) t.bucket) (cpus_of v.setup v.number) v.flat t.bucket
+    → (hand_of p a).thread ≡ Some t → told ≡ t → v.flat.on ≡ true
+    → seen ≡ load (times_for (cluster_times v.setup v.number) told.bucket) (cpus_of v.setup v.number) v.flat told.bucket
     → new ≡ changed p c x a (looked_hand (hand_of p a) c (answers.Load seen) now)
     → Does p new a now (acts.Look c) (answers.Load seen)
-looks_on p new a now c seen v x t below ready later read is held lit sees changes =
+looks_on p new a now c seen v x t told below ready later read is held tells lit sees changes =
     let h = looked_hand (hand_of p a) c (answers.Load seen) now in
     let serves = subst (Serves p.setup (2 ^ 50) c) read (ready.serve c below) in
     let seen_is : load (times_for (cluster_times p.setup c) t.bucket) (cpus_of p.setup c) v.flat t.bucket ≡ seen =
-      ap (λ (s : SetupParts). load (times_for (cluster_times s c) t.bucket) (cpus_of s c) v.flat t.bucket) (sym serves.of_setup)
-      ∙ ap (λ k. load (times_for (cluster_times v.setup k) t.bucket) (cpus_of v.setup k) v.flat t.bucket) (sym serves.number)
-      ∙ sym sees in
+    ap (λ (s : SetupParts). load (times_for (cluster_times s c) t.bucket) (cpus_of s c) v.flat t.bucket) (sym serves.of_setup)
+    ∙ ap (λ k. load (times_for (cluster_times v.setup k) t.bucket) (cpus_of v.setup k) v.flat t.bucket) (sym serves.number)
+    ∙ ap (λ (f : Facts). load (times_for (cluster_times v.setup v.number) f.bucket) (cpus_of v.setup v.number) v.flat f.bucket) (sym tells)
+    ∙ sym sees in
     let comes : (y : Yard) → accepted_at p y a now (acts.Look c) ≡ look_outcome_by (state_of p y) a (hand_of p a) c now (record { answer = answers.Load seen; thread = None; flat = touched now v.flat }) =
-      λ y. ap (look_outcome p.setup (state_of p y) a (hand_of p a) c now) held
-        ∙ ap (λ (s : Flat). look_outcome_by (state_of p y) a (hand_of p a) c now (look_event p.setup c t.bucket now s)) (flat_of_view p c v y read)
-        ∙ ap (λ b. look_outcome_by (state_of p y) a (hand_of p a) c now (record { answer = if b then answers.Load (load (times_for (cluster_times p.setup c) t.bucket) (cpus_of p.setup c) v.flat t.bucket) else answers.Off; thread = None; flat = touched now v.flat })) lit
-        ∙ ap (λ l. look_outcome_by (state_of p y) a (hand_of p a) c now (record { answer = answers.Load l; thread = None; flat = touched now v.flat })) seen_is in
+    λ y. ap (look_outcome p.setup (state_of p y) a (hand_of p a) c now) held
+    ∙ ap (λ (s : Flat). look_outcome_by (state_of p y) a (hand_of p a) c now (look_event p.setup c t.bucket now s)) (flat_of_view p c v y read)
+    ∙ ap (λ b. look_outcome_by (state_of p y) a (hand_of p a) c now (record { answer = if b then answers.Load (load (times_for (cluster_times p.setup c) t.bucket) (cpus_of p.setup c) v.flat t.bucket) else answers.Off; thread = None; flat = touched now v.flat })) lit
+    ∙ ap (λ l. look_outcome_by (state_of p y) a (hand_of p a) c now (record { answer = answers.Load l; thread = None; flat = touched now v.flat })) seen_is in
     acts_quietly p new a now c (acts.Look c) (answers.Load seen) v x v.flat.on h below ready later read (record { is = is })
     (λ y. ap (λ (o : Outcome). o.answer) (comes y))
     (λ y. ap (λ (o : Outcome). o.state) (comes y))

@@ -1,3 +1,5 @@
+pub mod Machines
+pub mod Making
 pub mod Parts
 pub mod Yards
 pub mod Machines

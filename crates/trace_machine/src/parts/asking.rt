@@ -1,6 +1,6 @@
 //! What is asked of the parts before an act. Nothing changes.
 
-ghost use Rattle.std.specs.Prelude.{◌≡◌, ◌<◌, ◌≤◌, IsSome, None, Some, length, option_map, ℕ};
+ghost use Rattle.std.specs.Prelude.{◌≡◌, ◌<◌, ◌≤◌, IsSome, None, Some, is_some, length, option_map, ℕ};
 ghost use Rattle.sched_base.specs.declared.Facts.{Facts};
 ghost use Rattle.flat_policy.specs.Policy.Machine.{not_allowed};
 ghost use Rattle.flat_policy.specs.Policy.Setup.{actor_count, cluster_count, home_of};
@@ -29,6 +29,14 @@ impl<K: Cluster> Parts<K> {
         ensures below { result < cluster_count self.now.setup }
     {
         self.setup.home(actor)
+    }
+
+    /// Whether the hand holds a thread.
+    pub fn holds(&self, actor: u8) -> bool
+        requires { actor < length self.now.hands }
+        ensures { result ≡ is_some (hand_of self.now actor).thread }
+    {
+        self.hands[actor as usize].thread.is_some()
     }
 
     /// The facts of the hand's thread.

@@ -56,7 +56,8 @@ impl<K: Cluster> Parts<K> {
     pub fn ran(&mut self, actor: u8, us: u32, now: u64) -> u64
         requires ready { IsReady self.old actor }
         requires held { IsSome (hand_of self.old actor).thread }
-        ensures { Does self.old self.new actor now (acts.Ran us) (answers.Work result) }
+        ensures does { Does self.old self.new actor now (acts.Ran us) (answers.Work result) }
+        ensures clusters { self.new.clusters ≡ self.old.clusters }
     {
         let rate = self.setup.rate(self.setup.home(actor));
         let hand = &mut self.hands[actor as usize];

@@ -1,10 +1,11 @@
 //! Making the parts, and ending them.
 
-ghost use Rattle.std.specs.Prelude.{◌≡◌, ◌<◌, ◌≤◌, ◌^◌, IfOk, length, ℕ};
+ghost use Rattle.std.specs.Prelude.{◌≡◌, ◌<◌, ◌≤◌, ◌^◌, All, IfOk, length, map, replicate, ℕ};
 ghost use Rattle.flat_policy.specs.Policy.BuiltSetups.{IsSetup};
-ghost use Rattle.flat_policy.specs.Policy.Machine.{empty_machine, empty_yard};
-ghost use Rattle.flat_policy.specs.Policy.Setup.{cluster_count};
-ghost use Rattle.trace_machine.specs.Parts.{AllServe, cluster_at, state_of};
+ghost use Rattle.flat_policy.specs.Policy.Machine.{empty_hand, empty_machine, empty_yard};
+ghost use Rattle.flat_policy.specs.Policy.Setup.{actor_count, cluster_count};
+ghost use Rattle.trace_machine.specs.Making.{AreNew, CanEnd, IsNew};
+ghost use Rattle.trace_machine.specs.Parts.{AllServe, cluster_at, hand_in, state_of};
 
 use super::Parts;
 use crate::hand::HeldHand;
@@ -15,7 +16,10 @@ use migration::Looks;
 use std::alloc::{AllocError, Global};
 
 /// A cluster with spare room for so many threads as may live.
-fn roomy<K: Cluster>(alloc: Global, setup: &Setup, c: u8) -> Result<K, AllocError> {
+fn roomy<K: Cluster>(alloc: Global, setup: &Setup, c: u8) -> Result<K, AllocError>
+    requires { c < cluster_count setup.now }
+    ensures { IfOk result (λ made. IsNew setup.now c (K.Cluster.view made)) }
+{
     let mut cluster = K::new(alloc, setup, c)?;
     for _ in 0..setup.threads() {
         if cluster.reserve().is_err() {
@@ -26,16 +30,27 @@ fn roomy<K: Cluster>(alloc: Global, setup: &Setup, c: u8) -> Result<K, AllocErro
     Ok(cluster)
 }
 
-/// Ends clusters, and every thread that is queued there.
-fn end_clusters<K: Cluster>(clusters: Vec<K>) {
-    let mut clusters = clusters;
-    while let Some(mut cluster) = clusters.pop() {
-        for _ in 0..cluster.len() {
-            if let Some(thread) = cluster.take_any() {
-                thread.into_facts();
-            }
+/// Ends a cluster, and every thread that is queued there.
+fn end_cluster<K: Cluster>(cluster: K)
+    requires { CanEnd (K.Cluster.view cluster) }
+{
+    let mut cluster = cluster;
+    cluster.keeps();
+    for _ in 0..cluster.len() {
+        if let Some(thread) = cluster.take_any() {
+            thread.into_facts();
         }
-        cluster.end();
+    }
+    cluster.end();
+}
+
+/// Ends clusters, and every thread that is queued there.
+fn end_clusters<K: Cluster>(clusters: Vec<K>)
+    requires { All CanEnd (map K.Cluster.view clusters.items) }
+{
+    let mut clusters = clusters;
+    while let Some(cluster) = clusters.pop() {
+        end_cluster(cluster);
     }
     clusters.destroy_empty();
 }
@@ -57,7 +72,10 @@ fn end_hands(hands: Vec<HeldHand>) {
 }
 
 /// A cluster for each number.
-fn made_clusters<K: Cluster>(alloc: Global, setup: &Setup) -> Result<Vec<K>, AllocError> {
+#[tactic(auto, using(crate::proofs::Making::made_more))]
+fn made_clusters<K: Cluster>(alloc: Global, setup: &Setup) -> Result<Vec<K>, AllocError>
+    ensures { IfOk result (λ made. AreNew setup.now (cluster_count setup.now) (map K.Cluster.view made.items)) }
+{
     let mut clusters = Vec::with_capacity(alloc, setup.clusters() as usize)?;
     for c in 0..setup.clusters() {
         match roomy(alloc, setup, c) {
@@ -72,7 +90,10 @@ fn made_clusters<K: Cluster>(alloc: Global, setup: &Setup) -> Result<Vec<K>, All
 }
 
 /// An empty hand for each actor.
-fn made_hands(alloc: Global, setup: &Setup) -> Result<Vec<HeldHand>, AllocError> {
+fn made_hands(alloc: Global, setup: &Setup) -> Result<Vec<HeldHand>, AllocError>
+    ensures { IfOk result (λ made. map (hand_in setup.now) made.items ≡ replicate (actor_count setup.now) (empty_hand setup.now 0)) }
+{
+    setup.keeps_ranges();
     let mut hands = Vec::with_capacity(alloc, setup.actors() as usize)?;
     for _ in 0..setup.actors() {
         hands.push_reserved(HeldHand {

@@ -1,4 +1,4 @@
-use Rattle.std.proofs.Common.{◌≡◌, ◌<◌, length, ap, arith, ◌∙◌}
+use Rattle.std.proofs.Common.{◌<◌, length, ap, arith, ◌∙◌}
 use Rattle.edge_matrix.specs.EdgeTables.{edges_of}
 use Rattle.flat_policy.specs.Policy.Setup.{SetupParts}
 use Rattle.trace_machine.specs.Parts.{PartsView}
@@ -27,4 +27,4 @@ returns g c t is =
     let setup_is = ap (λ (q : PartsView). q.setup) c.self.view_is in
     aims p a setup hand t c.in-Some.thread c.facts.result c.aim.result setup_is hand_is c.in-Some.is c.facts.ensures.facts is
     (c.aim.ensures.among p.setup c.requires.ready.setup (c.self.invariant ∙ ap (λ (s : SetupParts). edges_of s) setup_is)
-      (prefers_one p a setup hand c.in-Some.thread c.facts.result c.fitting_prefers_among.ensures c.requires.ready hand_is c.in-Some.is c.facts.ensures.facts))
+    (prefers_one p a setup hand c.in-Some.thread c.facts.result c.fitting_prefers_among.ensures c.requires.ready hand_is c.in-Some.is c.facts.ensures.facts))

@@ -1,8 +1,5 @@
-use Rattle.std.proofs.Common.{◌≡◌, ◌<◌, length, ap, arith, ◌∙◌}
-use Rattle.edge_matrix.specs.EdgeTables.{edges_of}
-use Rattle.flat_policy.specs.Policy.Setup.{SetupParts}
-use Rattle.trace_machine.specs.Parts.{PartsView}
-use Rattle.trace_machine.proofs.Asking.{aims, prefers_few, prefers_one}
+use Rattle.std.proofs.Common.{◌<◌, length, arith}
+use Rattle.trace_machine.proofs.Asking.{prefers_few}
 use Rattle.trace_machine.proofs.Readings.{hand_read}
 use Rattle.trace_machine.proofs.parts.Parts.is_kept_out.Goals as goal
 

@@ -1,4 +1,3 @@
-use Rattle.std.proofs.Common.{◌≡◌, ap, sym, ◌∙◌}
 use Rattle.trace_machine.proofs.InHands.{hand_kept}
 use Rattle.trace_machine.proofs.parts.Parts.keep.Goals as goal
 

@@ -1,9 +1,7 @@
-use Rattle.std.proofs.Common.{◌≡◌, ◌<◌, length, ap, sym, subst, refl, arith, ◌∙◌}
-use Rattle.flat_policy.specs.Policy.Aim.{load}
+use Rattle.std.proofs.Common.{◌<◌, length, ap, sym, subst, refl, arith, ◌∙◌}
 use Rattle.flat_policy.specs.Policy.Machine.{Hand}
-use Rattle.flat_policy.specs.Policy.Setup.{SetupParts, cluster_count, cluster_times, cpus_of, times_for}
+use Rattle.flat_policy.specs.Policy.Setup.{SetupParts, cluster_count}
 use Rattle.sched_base.specs.declared.Answer.TheVariants as answers
-use Rattle.sched_base.specs.declared.Facts.{Facts}
 use Rattle.trace_machine.specs.Parts.{PartsView, hand_of}
 use Rattle.trace_machine.proofs.Readings.{cluster_read, hand_read}
 use Rattle.trace_machine.proofs.Touching.{hand_looked, looks_off, looks_on, some_held}
@@ -50,8 +48,9 @@ returns g c =
     let x = c.look-load.new.self in
     let v = view old in
     let thread = c.in-Some.thread in
-    looks_on p _ c.args.actor now c.args.c c.look-load.result v (view x) thread c.requires.cluster c.requires.ready c.requires.later cluster_is c.look-load.ensures.view
+    looks_on p _ c.args.actor now c.args.c c.look-load.result v (view x) thread c.facts.result c.requires.cluster c.requires.ready c.requires.later cluster_is c.look-load.ensures.view
     (ap (λ (h : Hand). h.thread) hand_is ∙ c.in-Some.is)
+    c.facts.ensures.facts
     (sym c.is_on.ensures ∙ c.if-not-is_on.false)
-    (c.look-load.ensures.load _ refl ∙ ap (λ (t : Facts). load (times_for (cluster_times v.setup v.number) t.bucket) (cpus_of v.setup v.number) v.flat t.bucket) c.facts.ensures.facts)
+    (c.look-load.ensures.load _ refl)
     (hand_looked view setup xs hs p c.args.c x c.args.actor hand c.note.new.self (answers.Load c.look-load.result) now c.self.view_is hand_there c.index_mut-hand.ensures.value (c.note.ensures.among setup among))

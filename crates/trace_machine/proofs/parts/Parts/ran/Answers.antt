@@ -1,14 +1,14 @@
-use Rattle.std.proofs.Common.{◌≡◌, ◌<◌, ap, length, arith, ◌∙◌}
+use Rattle.std.proofs.Common.{◌<◌, ap, length, arith, ◌∙◌}
 use Rattle.flat_policy.specs.Policy.Machine.{Hand}
-use Rattle.flat_policy.specs.Policy.Setup.{SetupParts, home_of, rate_of}
+use Rattle.flat_policy.specs.Policy.Setup.{home_of, rate_of}
 use Rattle.sched_base.specs.declared.Facts.{Facts}
 use Rattle.trace_machine.specs.Parts.{PartsView}
 use Rattle.trace_machine.proofs.InHands.{hand_ran, runs}
 use Rattle.trace_machine.proofs.Readings.{hand_read}
 use Rattle.trace_machine.proofs.parts.Parts.ran.Goals as goal
 
-pub returns : goal.returns
-returns g c =
+pub returns-clause-does : goal.returns-clause-does
+returns-clause-does g c =
     let p = c.args.self.now in
     let view = g.K.Cluster.view in
     let setup = c.self.inside.setup in

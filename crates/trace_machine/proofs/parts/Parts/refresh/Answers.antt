@@ -1,4 +1,4 @@
-use Rattle.std.proofs.Common.{◌≡◌, arith}
+use Rattle.std.proofs.Common.{arith}
 use Rattle.flat_policy.specs.Policy.Machine.{Hand, kept_hand}
 use Rattle.trace_machine.proofs.Readings.{cluster_read, hand_after_cluster}
 use Rattle.trace_machine.proofs.Touching.{refreshes}

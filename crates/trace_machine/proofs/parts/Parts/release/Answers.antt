@@ -1,6 +1,5 @@
-use Rattle.std.proofs.Common.{◌≡◌, Some, None, ap, sym, subst, arith, ◌∙◌}
+use Rattle.std.proofs.Common.{None, ap, sym, subst}
 use Rattle.flat_policy.specs.Policy.BuiltSetups.{IsSetup}
-use Rattle.flat_policy.specs.Policy.Setup.{SetupParts}
 use Rattle.trace_machine.specs.Parts.{PartsView}
 use Rattle.trace_machine.proofs.InHands.{hand_reset}
 use Rattle.trace_machine.proofs.parts.Parts.release.Goals as goal

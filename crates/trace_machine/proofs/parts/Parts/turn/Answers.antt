@@ -1,4 +1,4 @@
-use Rattle.std.proofs.Common.{◌≡◌, true, false, ap, refl, arith, ◌∙◌}
+use Rattle.std.proofs.Common.{true, false, ap, refl, arith, ◌∙◌}
 use Rattle.flat_policy.specs.Policy.Clusters.{after_turn}
 use Rattle.flat_policy.specs.Policy.Machine.{Hand, kept_hand}
 use Rattle.sched_base.specs.declared.Act.TheVariants as acts
