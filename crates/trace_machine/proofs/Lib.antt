@@ -1,12 +1,16 @@
 pub mod ActsTo
 pub mod Asking
 pub mod Beginning
+pub mod Changes
 pub mod Elements
 pub mod Entering
 pub mod Found
 pub mod Frames
+pub mod HandActs
 pub mod Histories
 pub mod InHands
+pub mod Keeping
+pub mod LiveNames
 pub mod Looking
 pub mod Making
 pub mod Moving
