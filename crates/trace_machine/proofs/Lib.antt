@@ -2,7 +2,6 @@ pub mod ActsTo
 pub mod Asking
 pub mod Beginning
 pub mod Changes
-pub mod Elements
 pub mod Entering
 pub mod Found
 pub mod Frames
@@ -13,6 +12,7 @@ pub mod Keeping
 pub mod LiveNames
 pub mod Looking
 pub mod Making
+pub mod Moments
 pub mod Moving
 pub mod MovingActs
 pub mod PullActs
