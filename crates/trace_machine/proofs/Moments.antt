@@ -1,5 +1,5 @@
 -- The effective moment of a step.
-use Rattle.std.proofs.Common.{◌≡◌, ℕ, ◌<◌, ◌≤◌, ◌&&◌, IsTrue, Bool, true, false, Option, Some, None, length, max, nat_lt, refl, sym, ap, ap₂, ◌∙◌, subst, arith, ltb-true}
+use Rattle.std.proofs.Common.{◌≡◌, ℕ, ◌<◌, ◌&&◌, IsTrue, Bool, true, false, Option, Some, length, max, nat_lt, sym, ap, ap₂, ◌∙◌, subst, ltb-true}
 use Rattle.std.proofs.lemmas.Bool.{and_parts, false≢true}
 use Rattle.std.proofs.lemmas.Option.{none-some}
 use Rattle.std.proofs.lemmas.List.{length-map}
@@ -10,11 +10,11 @@ use Rattle.sched_base.specs.declared.Spot.{Spot}
 use Rattle.sched_base.specs.declared.Spot.TheVariants as spots
 use Rattle.sched_base.specs.declared.Step.{Step}
 use Rattle.flat_policy.specs.Policy.Clusters.{ClusterView}
-use Rattle.flat_policy.specs.Policy.Machine.{MachineState, Yard, effective_moment, fits_act, fits_step, hand_at, last_at, numbers_fit, site_of, spot_from, spot_of}
-use Rattle.flat_policy.specs.Policy.Setup.{SetupParts, actor_count, cluster_count, home_of}
+use Rattle.flat_policy.specs.Policy.Machine.{Yard, effective_moment, fits_act, fits_step, last_at, numbers_fit, site_of, spot_from, spot_of}
+use Rattle.flat_policy.specs.Policy.Setup.{SetupParts, actor_count, cluster_count}
 use Rattle.trace_machine.specs.Acting.{KeepsOn}
-use Rattle.trace_machine.specs.Machines.{MachineView, MeansOver}
-use Rattle.trace_machine.specs.Parts.{PartsView, hand_of, state_of}
+use Rattle.trace_machine.specs.Machines.{MachineView}
+use Rattle.trace_machine.specs.Parts.{hand_of, state_of}
 
 -- what a step that fits says
 pub record StepParts (setup : SetupParts) (s : Step) : Type 0 where
@@ -64,3 +64,16 @@ spot_there setup home acts.Blocked c below fits is = absurd (other_spot is)
 spot_there setup home acts.Refresh c below fits is = subst (λ n. n < cluster_count setup) (same_spot home c is) below
 spot_there setup home (acts.Off k) c below fits is = subst (λ n. n < cluster_count setup) (same_spot k c is) (ltb-true k (cluster_count setup) fits)
 spot_there setup home (acts.On k) c below fits is = subst (λ n. n < cluster_count setup) (same_spot k c is) (ltb-true k (cluster_count setup) fits)
+
+-- a machine that means something has a cluster for each number and a hand for each actor
+pub clusters_there : (v : MachineView) (y : Yard) → KeepsOn v y → length v.parts.clusters ≡ cluster_count v.parts.setup
+clusters_there v y keeps = sym (length-map v.parts.clusters (λ (w : ClusterView). w.flat)) ∙ keeps.before.sound.flats_length
+
+pub hands_there : (v : MachineView) (y : Yard) → KeepsOn v y → length v.parts.hands ≡ actor_count v.parts.setup
+hands_there v y keeps = keeps.before.sound.hands_length
+
+-- the greatest of the step's moment, the actor's last and the place's last is the effective moment
+pub moment_is : (v : MachineView) (y : Yard) (s : Step) (hand own spot now : ℕ) → hand ≡ (hand_of v.parts s.actor).last → own ≡ max s.moment hand
+    → spot ≡ last_at (state_of v.parts y) (spot_of v.parts.setup s) → now ≡ max own spot → now ≡ effective_moment v.parts.setup (state_of v.parts y) s
+moment_is v y s hand own spot now is_hand is_own is_spot is_now =
+    is_now ∙ ap₂ max (is_own ∙ ap (max s.moment) is_hand) is_spot
