@@ -107,3 +107,12 @@ filter_has p (y ∷ ys) x c h =
 -- without the only member that passes the list is one shorter
 pub one_fewer : {X : Type 0} (p : X → Bool) (xs : List X) → count_by p xs ≡ 1 → length (filter (λ x. not (p x)) xs) + 1 ≡ length xs
 one_fewer p xs one = omega (arith, one, length-filter p xs, length-filter_both p (λ x. not (p x)) (λ x. refl) xs)
+
+-- what is found passes
+pub found_passes : {X : Type 0} (p : X → Bool) (xs : List X) (x : X) → find p xs ≡ Some x → p x ≡ true
+found_passes p [] x is = absurd (cc)
+found_passes p (y ∷ ys) x is =
+    elim (cases_Bool (p y)) [
+      | inl e ↦ (let same : y ≡ x = grind (arith, sym (cond-true (p y) (Some y) (find p ys) e) ∙ is) in ap p (sym same) ∙ e)
+      | inr e ↦ found_passes p ys x (sym (cond-false (p y) (Some y) (find p ys) e) ∙ is)
+    ]

@@ -75,8 +75,10 @@ impl<K: Cluster> Machine<K> {
 
     /// Ends the machine, and every thread in it.
     pub fn end(self)
-        requires { IsMachine self }
+        requires machine { IsMachine self }
+        requires few { self.steps ≤ 2 ^ 50 }
     {
+        self.stays();
         let Machine {
             parts,
             yard,

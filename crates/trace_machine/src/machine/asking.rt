@@ -16,6 +16,7 @@ impl<K: Cluster> Machine<K> {
         requires { IsMachine self.now }
         ensures { (g : MachineState) → Means self.now g → result ≡ place_of g name }
     {
+        self.stays();
         place_at(self.names.get(name))
     }
 
@@ -25,6 +26,7 @@ impl<K: Cluster> Machine<K> {
         requires actor { actor < actor_count self.now.parts.setup }
         ensures { (g : MachineState) → Means self.now g → result ≡ (hand_at g actor).thread }
     {
+        self.stays();
         self.parts.hand(actor)
     }
 

@@ -1,13 +1,11 @@
-use Rattle.std.proofs.Common.{◌≡◌, ap, refl, sym, subst, true, is_some, Err, Ok, ◌∙◌, Some}
-use Rattle.sched_base.specs.declared.Act.TheVariants as acts
-use Rattle.sched_base.specs.declared.Answer.TheVariants as answers
+use Rattle.std.proofs.Common.{◌≡◌, ap, sym, subst, true, is_some, ◌∙◌, Some}
 use Rattle.sched_base.specs.declared.Facts.{Facts}
 use Rattle.migration.specs.Looks.{IsAim}
 use Rattle.flat_policy.specs.Policy.Machine.{kept_hand}
 use Rattle.trace_machine.specs.Machines.{MachineView}
-use Rattle.trace_machine.specs.Parts.{Does, PartsView, hand_of}
+use Rattle.trace_machine.specs.Parts.{PartsView, hand_of}
 use Rattle.trace_machine.proofs.Setting.{rehanded}
-use Rattle.trace_machine.proofs.Looking.{aim_acts, aim_lacks}
+use Rattle.trace_machine.proofs.HandActs.{aim_acts, aim_lacks}
 use Rattle.trace_machine.proofs.machine.Machine.aim.Goals as goal
 
 pub returns-in-Ok : goal.returns-in-Ok

@@ -1,10 +1,8 @@
-use Rattle.std.proofs.Common.{◌≡◌, ap, refl, sym, subst, true, is_some, Err, Ok, ◌∙◌, Some}
+use Rattle.std.proofs.Common.{◌≡◌, ap, sym, subst, true, is_some, ◌∙◌}
 use Rattle.sched_base.specs.declared.Act.TheVariants as acts
-use Rattle.sched_base.specs.declared.Answer.TheVariants as answers
-use Rattle.sched_base.specs.declared.Facts.{Facts}
 use Rattle.trace_machine.specs.Machines.{MachineView}
 use Rattle.trace_machine.specs.Parts.{Does, PartsView, hand_of}
-use Rattle.trace_machine.proofs.Looking.{look_acts}
+use Rattle.trace_machine.proofs.HandActs.{look_acts}
 use Rattle.trace_machine.proofs.machine.Machine.look.Goals as goal
 
 pub returns : goal.returns
