@@ -17,25 +17,24 @@ use Rattle.trace_machine.proofs.Setting.{serves_longer}
 pub new_means : (v : MachineView) (setup : SetupParts) → v.parts.setup ≡ setup → IsSetup v.parts.setup → state_of v.parts empty_yard ≡ empty_machine setup
     → AllServe 0 v.parts → setup.threads ≤ v.yard.sleepers.spare → ((slot : ℕ) → value_at v.yard.sleepers slot ≡ None) → live_count v.yard.sleepers ≡ 0
     → v.yard.live ≡ 0 → v.yard.last ≡ 0 → ((name : ℕ) → standing_of v.names name ≡ None) → v.steps ≡ 0 → Means v (empty_machine setup)
-new_means v setup of built state serve room none count live last unnamed steps =
-    (
-      empty_yard,
-      sym state,
-      record {
-        setup = built;
-        serve = subst (λ n. AllServe n v.parts) (sym steps) serve;
-        yard = record {
-          last = last;
-          live = live;
-          count = count;
-          blocked = λ slot w is. absurd (none-some w (sym (none slot) ∙ is));
-          named = λ slot w is. absurd (none-some w (sym (none slot) ∙ is));
-          room = omega (arith, room, ap (λ (s : SetupParts). s.threads) of);
-        };
-        names = λ name. subst (StandsThere v empty_yard name) (sym (unnamed name)) refl;
-        history = ([], state ∙ ap empty_machine (sym of), omega arith);
-      },
-    )
+new_means v setup of built state serve room none count live last unnamed steps = (
+  empty_yard,
+  sym state,
+  record {
+    setup = built;
+    serve = subst (λ n. AllServe n v.parts) (sym steps) serve;
+    yard = record {
+      last = last;
+      live = live;
+      count = count;
+      blocked = λ slot w is. absurd (none-some w (sym (none slot) ∙ is));
+      named = λ slot w is. absurd (none-some w (sym (none slot) ∙ is));
+      room = omega (arith, room, ap (λ (s : SetupParts). s.threads) of);
+    };
+    names = λ name. subst (StandsThere v empty_yard name) (sym (unnamed name)) refl;
+    history = ([], state ∙ ap empty_machine (sym of), omega arith);
+  },
+)
 
 -- at its end a machine has a cluster for each number, and each serves
 pub ends_with : (v : MachineView) → IsMachine v → ((y : Yard) → MeansOver v y → KeepsOn v y) → length v.parts.clusters ≡ cluster_count v.parts.setup

@@ -62,12 +62,12 @@ move_frame old new y a now act told name s m = record {
       elim (cases_eq k a) [
         | inl here ↦ absurd (eqb-false t.name name is (m.held t (ap (λ i. (hand_of old.parts i).thread) (sym here) ∙ holding)))
         | inr other ↦ (
-            t,
-            hand_by old.parts new.parts a m.hand k (hands_after old new y a now act told m.hand m.does m.hands)
-            ∙ ap (λ (h : Hand). h.thread) (hand_other old.parts a m.hand k other)
-            ∙ holding,
-            refl,
-          )
+          t,
+          hand_by old.parts new.parts a m.hand k (hands_after old new y a now act told m.hand m.does m.hands)
+              ∙ ap (λ (h : Hand). h.thread) (hand_other old.parts a m.hand k other)
+              ∙ holding,
+          refl,
+        )
       ];
   slots = λ slot w is there. ap (λ (v : YardView). value_at v.sleepers slot) m.yard ∙ there;
   ended = λ n is there. there;
@@ -104,7 +104,7 @@ pub enter_acts : (old new : MachineView) (y : Yard) (a now c : ℕ) (head : Bool
     → ActsTo old new y a now (acts.Enter c head) (answers.Pri ticket.pri)
 enter_acts old new y a now c head t ticket set means keeps holding below allowed does cluster stands noted yard steps =
     let accepted : accepted_at old.parts y a now (acts.Enter c head) ≡ enter_outcome old.parts.setup (state_of old.parts y) a c head now (Some t) =
-        ap (enter_outcome old.parts.setup (state_of old.parts y) a c head now) holding in
+    ap (enter_outcome old.parts.setup (state_of old.parts y) a c head now) holding in
     move_acts old new y a now (acts.Enter c head) (answers.Pri ticket.pri) t.name (standings.Queued ticket) means
     (record {
       accepted = refusal_none (hand_empty (hand_of old.parts a)) (not_allowed old.parts.setup (hand_of old.parts a).thread c ∷ []) (ap is_none holding)
@@ -117,9 +117,8 @@ enter_acts old new y a now c head t ticket set means keeps holding below allowed
       noted = noted;
       yard = yard;
       steps = steps;
-    })
-    (
-        subst (λ (s : SetupParts). ticket.cluster < cluster_count s) (sym does.keeps_setup) (subst (λ k. k < cluster_count old.parts.setup) (sym cluster) below),
-        subst (λ k. NameStands (cluster_at new.parts k) ticket.slot ticket.arrival t.name) (sym cluster) stands,
+    }) (
+      subst (λ (s : SetupParts). ticket.cluster < cluster_count s) (sym does.keeps_setup) (subst (λ k. k < cluster_count old.parts.setup) (sym cluster) below),
+      subst (λ k. NameStands (cluster_at new.parts k) ticket.slot ticket.arrival t.name) (sym cluster) stands,
     )
     (held_apart old y a t (known old y means keeps) holding)

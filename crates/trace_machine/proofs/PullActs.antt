@@ -66,9 +66,9 @@ pull_acts old new y a now name ticket set means keeps empty stands here does not
     let e : Queued = queued.0 in
     let found : named_entry (flat_at g home) name ≡ Some e = ap (λ (s : Flat). named_entry s name) (flat_is old.parts y home) ∙ queued.2 in
     let named : e.facts.name ≡ name =
-        eqb-true e.facts.name name (found_passes (λ (q : Queued). q.facts.name == name) (cluster_at old.parts home).flat.entries e queued.2) in
+    eqb-true e.facts.name name (found_passes (λ (q : Queued). q.facts.name == name) (cluster_at old.parts home).flat.entries e queued.2) in
     let comes : accepted_at old.parts y a now (acts.Pull name) ≡ taking old.parts.setup g a (hand_of old.parts a) home now (pull_event e now (flat_at g home)) =
-        ap (pull_outcome old.parts.setup g a (hand_of old.parts a) home now) found in
+    ap (pull_outcome old.parts.setup g a (hand_of old.parts a) home now) found in
     let hand : Hand = filled_hand old.parts.setup e.facts now in
     let hands : (accepted_at old.parts y a now (acts.Pull name)).state.hands ≡ slice_set old.parts.hands a hand = ap (λ (o : Outcome). o.state.hands) comes in
     move_acts old new y a now (acts.Pull name) answers.Yes name (standings.Held a) means
@@ -82,14 +82,13 @@ pull_acts old new y a now name ticket set means keeps empty stands here does not
       noted = noted;
       yard = yard;
       steps = steps;
-    })
-    (
-        subst (λ (s : SetupParts). a < actor_count s) (sym does.keeps_setup) set.ready.actor,
-        (
-            e.facts,
-            hand_by old.parts new.parts a hand a (hands_after old new y a now (acts.Pull name) answers.Yes hand does hands)
+    }) (
+      subst (λ (s : SetupParts). a < actor_count s) (sym does.keeps_setup) set.ready.actor,
+      (
+        e.facts,
+        hand_by old.parts new.parts a hand a (hands_after old new y a now (acts.Pull name) answers.Yes hand does hands)
             ∙ ap (λ (h : Hand). h.thread) (hand_changed old.parts a hand (actor_within old a now (acts.Pull name) set)),
-            named,
-        ),
+        named,
+      ),
     )
     (apart_from_sleepers old y name means.yard (λ slot is. let f = sym stands ∙ is in cc))

@@ -108,7 +108,7 @@ pull_elsewhere v y a name st k empty stands other =
     let home : ℕ = home_of v.parts.setup a in
     let refusing : Refusal = not_queued (state_of v.parts y) (flat_at (state_of v.parts y) home) name in
     let is : refusing ≡ refuse (not (is_queued_at home st)) (answers.NotQueued (place_in st)) =
-        not_queued_is v y k name home ∙ ap (λ o. refuse (not (is_queued_at home o)) (answers.NotQueued (place_in o))) stands in
+    not_queued_is v y k name home ∙ ap (λ o. refuse (not (is_queued_at home o)) (answers.NotQueued (place_in o))) stands in
     refusal_later (hand_full (hand_of v.parts a)) (refusing ∷ []) (Some (answers.NotQueued (place_in st))) empty
     (refusal_comes refusing [] (ap (λ (r : Refusal). r.holds) is ∙ ap not other) ∙ ap (λ (r : Refusal). Some r.answer) is)
 
@@ -119,7 +119,7 @@ pub wake_elsewhere : (v : MachineView) (y : Yard) (a name : ℕ) (st : Option St
 wake_elsewhere v y a name st k empty stands other =
     let refusing : Refusal = not_blocked (state_of v.parts y) name in
     let is : refusing ≡ refuse (not (is_resting st)) (answers.NotBlocked (place_in st)) =
-        not_blocked_is v y k name ∙ ap (λ o. refuse (not (is_resting o)) (answers.NotBlocked (place_in o))) stands in
+    not_blocked_is v y k name ∙ ap (λ o. refuse (not (is_resting o)) (answers.NotBlocked (place_in o))) stands in
     refusal_later (hand_full (hand_of v.parts a)) (refusing ∷ []) (Some (answers.NotBlocked (place_in st))) empty
     (refusal_comes refusing [] (ap (λ (r : Refusal). r.holds) is ∙ ap not other) ∙ ap (λ (r : Refusal). Some r.answer) is)
 

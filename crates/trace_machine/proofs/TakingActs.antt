@@ -82,9 +82,9 @@ taken_hand : (old : MachineView) (new : PartsView) (y : Yard) (a now : ℕ) (act
 taken_hand old new y a now act told m t is =
     let hand : Hand = filled_hand old.parts.setup t now in
     let hands : new.hands ≡ slice_set old.parts.hands a hand =
-        sym (ap (λ (g : MachineState). g.hands) (m.does.leads y))
-        ∙ ap (λ (o : Outcome). o.state.hands) m.comes
-        ∙ ap (λ o. slice_set old.parts.hands a (taking_hand old.parts.setup (hand_of old.parts a) o now)) is in
+    sym (ap (λ (g : MachineState). g.hands) (m.does.leads y))
+    ∙ ap (λ (o : Outcome). o.state.hands) m.comes
+    ∙ ap (λ o. slice_set old.parts.hands a (taking_hand old.parts.setup (hand_of old.parts a) o now)) is in
     hand_by old.parts new a hand a hands ∙ ap (λ (h : Hand). h.thread) (hand_changed old.parts a hand (actor_within old a now act m.set))
 
 -- after it each name stands once
@@ -125,11 +125,11 @@ taken_apart : (old : MachineView) (new : PartsView) (y : Yard) (a now : ℕ) (ac
     → m.event.thread ≡ Some t → (slot : ℕ) (w : Resting) → value_at old.yard.sleepers slot ≡ Some w → w.thread.name ≢ t.name
 taken_apart old new y a now act told m t means keeps is slot w there same =
     omega (
-        arith,
-        held_counts new y a t (taken_hand old new y a now act told m t is),
-        hand_and_yard (state_of new y) a t.name,
-        few_counted (state_of new y) t.name (once_after old new y a now act told m means keeps),
-        member_counted (λ (s : Sleeper). s.facts.name == t.name) y.blocked (sleeper_in w) (means.yard.blocked slot w there) (eq-eqb w.thread.name t.name same),
+      arith,
+      held_counts new y a t (taken_hand old new y a now act told m t is),
+      hand_and_yard (state_of new y) a t.name,
+      few_counted (state_of new y) t.name (once_after old new y a now act told m means keeps),
+      member_counted (λ (s : Sleeper). s.facts.name == t.name) y.blocked (sleeper_in w) (means.yard.blocked slot w there) (eq-eqb w.thread.name t.name same),
     )
 
 -- what it comes to where a thread is taken, and where none is
@@ -148,10 +148,9 @@ taken_some old new y a now act told m t means keeps notes yard steps is =
       noted = notes.held t.name got_it;
       yard = yard;
       steps = steps;
-    })
-    (
-        subst (λ (s : SetupParts). a < actor_count s) (sym m.does.keeps_setup) m.set.ready.actor,
-        (t, taken_hand old new.parts y a now act told m t is, refl),
+    }) (
+      subst (λ (s : SetupParts). a < actor_count s) (sym m.does.keeps_setup) m.set.ready.actor,
+      (t, taken_hand old new.parts y a now act told m t is, refl),
     )
     (taken_apart old new.parts y a now act told m t means keeps is)
 

@@ -1,9 +1,9 @@
-use Rattle.std.proofs.Common.{◌≡◌, ap, refl, sym, subst, is_some, ◌<◌, ◌≤◌, ◌∙◌, None, arith}
+use Rattle.std.proofs.Common.{◌≡◌, ap, refl, sym, subst, is_some, None, OnErr, Result, Ok, Err, ◌<◌, ◌≤◌, ◌∙◌, None, arith}
 use Rattle.sched_base.specs.Facts.{fresh}
 use Rattle.sched_base.specs.declared.Act.TheVariants as acts
 use Rattle.sched_base.specs.declared.Answer.TheVariants as answers
 use Rattle.sched_base.specs.declared.Facts.{Facts}
-use Rattle.flat_policy.specs.Policy.Machine.{filled_hand}
+use Rattle.flat_policy.specs.Policy.Machine.{Yard, filled_hand}
 use Rattle.flat_policy.specs.Policy.Setup.{SetupParts}
 use Rattle.flat_policy.specs.Policy.Threads.{made_thread, preference}
 use Rattle.trace_machine.specs.Acting.{ActsTo, IsSet, KeepsOn}
@@ -65,8 +65,12 @@ returns-clause-done g c y means =
     (c.fill.ensures ∙ ap (λ (t : Facts). rehanded i.parts d.actor (filled_hand setup t d.now)) made) c.make.ensures c.in_ok-add.ensures.added refl)
     c.requires means (c.stays.ensures y means)
 
+on_err : {T E P : Type 0} (r : Result T E) → P → OnErr r P
+on_err (Ok x) p = tt
+on_err (Err e) p = p
+
 pub returns-in_err-add-clause-accepted : goal.returns-in_err-add-clause-accepted
-returns-in_err-add-clause-accepted g c y means =
+returns-in_err-add-clause-accepted g c =
     let i = c.self.inside in
     let d = c.args in
     let act = acts.Make d.name d.group d.bucket d.base d.bound in
@@ -75,6 +79,8 @@ returns-in_err-add-clause-accepted g c y means =
     let unnamed = none_there (standing_of i.names d.name) (ap is_some (sym c.get.ensures) ∙ sym c.is_some.ensures ∙ c.if-is_some.false) in
     let room : i.yard.live < i.parts.setup.threads =
     omega (arith, c.if-live-threads.false, c.live.ensures, c.threads.ensures.threads, ap (λ (s : SetupParts). s.threads) c.setup.ensures) in
+    let accepted : (y : Yard) → MeansOver d.self.now y → refused_by d.self.now.parts y d.actor act ≡ None = λ y means.
     subst (λ (v : MachineView). MeansOver v y → KeepsOn v y → refused_by v.parts y d.actor act ≡ None) c.self.view_is
     (λ over keeps. make_accepted old y d.actor d.name d.group d.base d.bucket d.bound (known old y over keeps) empty unnamed room)
-    means (c.stays.ensures y means)
+    means (c.stays.ensures y means) in
+    on_err c.from_residual.result accepted
