@@ -12,6 +12,7 @@ pub mod Looking
 pub mod Making
 pub mod Moving
 pub mod MovingActs
+pub mod Noting
 pub mod PullActs
 pub mod QueueRoom
 pub mod Readings

@@ -1,8 +1,11 @@
 //! Acts that move a thread between a hand and a queue.
 
-ghost use Rattle.std.specs.Prelude.{◌≡◌};
+ghost use Rattle.std.specs.Prelude.{◌≡◌, ◌≢◌, ◌==◌, IsSome, Some, if◌then◌else◌, ℕ};
 ghost use Rattle.sched_base.specs.declared.Act.TheVariants as acts;
+ghost use Rattle.sched_base.specs.declared.Answer.TheVariants as answers;
 ghost use Rattle.trace_machine.specs.Acting.{Acts, IsSet};
+ghost use Rattle.trace_machine.specs.Yards.{standing_of};
+ghost use Rattle.trace_machine.specs.declared.names.Standing.TheVariants as standings;
 
 use super::{Machine, place_at};
 use crate::names::Standing;
@@ -78,7 +81,14 @@ impl<K: Cluster> Machine<K> {
     }
 
     /// Notes that a thread that was got is in the hand.
-    fn note_held(&mut self, actor: u8, answer: Answer) {
+    fn note_held(&mut self, actor: u8, answer: Answer)
+        requires { (name : ℕ) → answer ≡ answers.Got name → IsSome (standing_of self.old.names name) }
+        ensures parts { self.new.parts ≡ self.old.parts }
+        ensures yard { self.new.yard ≡ self.old.yard }
+        ensures steps { self.new.steps ≡ self.old.steps }
+        ensures held { (name : ℕ) → answer ≡ answers.Got name → (other : ℕ) → standing_of self.new.names other ≡ (if other == name then Some (standings.Held actor) else standing_of self.old.names other) }
+        ensures rest { ((name : ℕ) → answer ≢ answers.Got name) → self.new.names ≡ self.old.names }
+    {
         if let Answer::Got(name) = answer {
             self.names.set(name, Standing::Held(actor));
         }
