@@ -29,7 +29,7 @@ use Rattle.trace_machine.proofs.Frames.{Frame, names_after, yard_stays}
 use Rattle.trace_machine.proofs.LiveNames.{few_counted, hand_and_yard, made_where_counted}
 use Rattle.trace_machine.proofs.Setting.{hand_changed, hand_other, rehanded}
 use Rattle.trace_machine.proofs.Standing.{KnowsPlaces, flat_is, used_is}
-use Rattle.trace_machine.proofs.StandingFound.{is_queued_at, not_queued_is, queued_is}
+use Rattle.trace_machine.proofs.StandingFound.{not_queued_is, queued_is}
 use Rattle.trace_machine.proofs.YardActs.{actor_within, held_apart, known}
 use Rattle.trace_machine.proofs.YardMoves.{IsNoted, is_name, moved_stands, noted_other, refusal_none}
 

@@ -22,14 +22,14 @@ use Rattle.trace_machine.specs.declared.names.Standing.TheVariants as standings
 use Rattle.trace_machine.specs.declared.yard.Resting.{Resting}
 use Rattle.trace_machine.specs.Machines.{MachineView, MeansOver, StandsThere}
 use Rattle.trace_machine.specs.Parts.{Does, IsOtherThread, IsQueuedAs, PartsView, accepted_at, cluster_at, hand_of, state_of}
-use Rattle.trace_machine.specs.Yards.{sleeper_in, standing_of}
+use Rattle.trace_machine.specs.Yards.{is_queued_at, sleeper_in, standing_of}
 use Rattle.trace_machine.proofs.ActsTo.{accepted_is, quiet_acts, quiet_from, refused_by}
 use Rattle.trace_machine.proofs.Found.{found_passes, member_counted}
 use Rattle.trace_machine.proofs.LiveNames.{few_counted, hand_and_yard, made_where_counted}
 use Rattle.trace_machine.proofs.MovingActs.{IsMove, hand_by, hands_after, move_acts}
 use Rattle.trace_machine.proofs.Setting.{hand_changed, rehanded}
 use Rattle.trace_machine.proofs.Standing.{KnowsPlaces, flat_is, used_is}
-use Rattle.trace_machine.proofs.StandingFound.{is_queued_at, not_queued_is, queued_is}
+use Rattle.trace_machine.proofs.StandingFound.{not_queued_is, queued_is}
 use Rattle.trace_machine.proofs.YardActs.{actor_within, known}
 use Rattle.trace_machine.proofs.YardMoves.{IsNoted, apart_from_sleepers, refusal_none}
 

@@ -13,10 +13,10 @@ use Rattle.trace_machine.specs.declared.names.Standing.{Standing}
 use Rattle.trace_machine.specs.declared.names.Standing.TheVariants as standings
 use Rattle.trace_machine.specs.Machines.{MachineView}
 use Rattle.trace_machine.specs.Parts.{hand_of, state_of}
-use Rattle.trace_machine.specs.Yards.{place_in, standing_of}
+use Rattle.trace_machine.specs.Yards.{is_queued_at, place_in, standing_of}
 use Rattle.trace_machine.proofs.ActsTo.{refused_by}
 use Rattle.trace_machine.proofs.Standing.{KnowsPlaces, used_is}
-use Rattle.trace_machine.proofs.StandingFound.{is_queued_at, is_resting, not_blocked_is, not_queued_is}
+use Rattle.trace_machine.proofs.StandingFound.{is_resting, not_blocked_is, not_queued_is}
 use Rattle.trace_machine.proofs.YardMoves.{refusal_none}
 
 -- a refusal that holds comes, and one that doesn't leaves it to the next

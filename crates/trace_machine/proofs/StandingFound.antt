@@ -14,7 +14,7 @@ use Rattle.trace_machine.specs.declared.names.Standing.TheVariants as standings
 use Rattle.trace_machine.specs.declared.yard.Resting.{Resting}
 use Rattle.trace_machine.specs.Machines.{MachineView, StandsThere}
 use Rattle.trace_machine.specs.Parts.{IsQueuedAs, cluster_at, hand_of, state_of}
-use Rattle.trace_machine.specs.Yards.{place_in, sleeper_in, standing_of}
+use Rattle.trace_machine.specs.Yards.{is_queued_at, place_in, sleeper_in, standing_of}
 use Rattle.trace_machine.proofs.Found.{any_from_counted, counted, found_alone, found_none, member_counted}
 use Rattle.trace_machine.proofs.Standing.{KnowsPlaces, counted_once, flat_is, place_is, standing_member, within_all}
 
@@ -32,14 +32,6 @@ in_hand (Some (standings.Queued t)) a e = absurd (cc)
 in_hand (Some (standings.Held b)) a e = (let same : b ≡ a = cc in ap (λ n. Some (standings.Held n)) same)
 in_hand (Some (standings.Blocked slot)) a e = absurd (cc)
 in_hand (Some standings.Ended) a e = absurd (cc)
-
--- whether a standing is one in the queue of a cluster
-abbrev pub is_queued_at : ℕ → Option Standing → Bool
-is_queued_at c None = false
-is_queued_at c (Some (standings.Queued t)) = t.cluster == c
-is_queued_at c (Some (standings.Held a)) = false
-is_queued_at c (Some (standings.Blocked slot)) = false
-is_queued_at c (Some standings.Ended) = false
 
 -- whether a standing is one in the yard
 abbrev pub is_resting : Option Standing → Bool

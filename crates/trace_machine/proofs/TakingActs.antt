@@ -29,7 +29,7 @@ use Rattle.trace_machine.proofs.LiveNames.{few_counted, hand_and_yard, made_wher
 use Rattle.trace_machine.proofs.MovingActs.{IsMove, hand_by, hands_after, move_acts}
 use Rattle.trace_machine.proofs.Setting.{hand_changed, rehanded}
 use Rattle.trace_machine.proofs.Standing.{KnowsPlaces, flat_is, used_is}
-use Rattle.trace_machine.proofs.StandingFound.{is_queued_at, not_queued_is, queued_is}
+use Rattle.trace_machine.proofs.StandingFound.{not_queued_is, queued_is}
 use Rattle.trace_machine.proofs.YardActs.{actor_within, known}
 use Rattle.trace_machine.proofs.YardMoves.{IsNoted, apart_from_sleepers, refusal_none}
 

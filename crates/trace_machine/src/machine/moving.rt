@@ -1,16 +1,37 @@
 //! Acts that move a thread between a hand and a queue.
 
-ghost use Rattle.std.specs.Prelude.{◌≡◌, ◌≢◌, ◌==◌, IsSome, Some, if◌then◌else◌, ℕ};
+ghost use Rattle.std.specs.Prelude.{◌≡◌, ◌≢◌, ◌==◌, IfNone, IfSome, IsSome, Some, false, if◌then◌else◌, ℕ};
 ghost use Rattle.sched_base.specs.declared.Act.TheVariants as acts;
 ghost use Rattle.sched_base.specs.declared.Answer.TheVariants as answers;
 ghost use Rattle.trace_machine.specs.Acting.{Acts, IsSet};
-ghost use Rattle.trace_machine.specs.Yards.{standing_of};
+ghost use Rattle.trace_machine.specs.Yards.{is_queued_at, standing_of};
 ghost use Rattle.trace_machine.specs.declared.names.Standing.TheVariants as standings;
 
 use super::{Machine, place_at};
 use crate::names::Standing;
 use flat_policy::cluster::Cluster;
-use sched_base::Answer;
+use sched_base::{Answer, Ticket};
+
+/// The ticket of a standing in the queue of a cluster.
+fn ticket_at(standing: Option<Standing>, c: u8) -> Option<Ticket>
+    ensures queued { IfSome result (λ ticket. standing ≡ Some (standings.Queued ticket)) }
+    ensures here { IfSome result (λ ticket. ticket.cluster ≡ c) }
+    ensures other { IfNone result (is_queued_at c standing ≡ false) }
+{
+    match standing {
+        Some(Standing::Queued(ticket)) => {
+            if ticket.cluster == c {
+                Some(ticket)
+            } else {
+                None
+            }
+        }
+        Some(Standing::Held(_)) => None,
+        Some(Standing::Blocked(_)) => None,
+        Some(Standing::Ended) => None,
+        None => None,
+    }
+}
 
 impl<K: Cluster> Machine<K> {
     /// The hand's thread enters a queue.
@@ -70,13 +91,14 @@ impl<K: Cluster> Machine<K> {
         if self.parts.holds(actor) {
             return Answer::HandFull;
         }
-        match self.names.get(name) {
-            Some(Standing::Queued(ticket)) if ticket.cluster == self.parts.home(actor) => {
+        let standing = self.names.get(name);
+        match ticket_at(standing, self.parts.home(actor)) {
+            Some(ticket) => {
                 self.parts.pull(actor, name, ticket, now);
                 self.names.set(name, Standing::Held(actor));
                 Answer::Yes
             }
-            standing => Answer::NotQueued(place_at(standing)),
+            None => Answer::NotQueued(place_at(standing)),
         }
     }
 
