@@ -1,5 +1,5 @@
 -- How many names may be away from the queues: no more are blocked, ended and in one hand than were made.
-use Rattle.std.proofs.Common.{◌≡◌, ℕ, ◌==◌, ◌||◌, ◌+◌, ◌≤◌, ◌<◌, Bool, true, false, cond, List, [], ◌∷◌, ◌++◌, Option, Some, None, count_by, length, map, sum_by, refl, sym, ap, ap₂, ◌∙◌, inl, inr, arith, eq-eqb, eqb}
+use Rattle.std.proofs.Common.{◌≡◌, ℕ, ◌==◌, ◌||◌, ◌+◌, ◌≤◌, true, false, cond, List, [], ◌∷◌, ◌++◌, Option, Some, count_by, length, map, refl, sym, ap, ap₂, ◌∙◌, inl, inr, arith, eq-eqb, eqb}
 use Rattle.std.specs.List.{AllByRecursion, IsDistinct, list_any}
 use Rattle.std.specs.Set.{is_member}
 use Rattle.std.proofs.lemmas.Bool.{cases_Bool, cases_eq, cases_lt, ne_eqb, or_parts}

@@ -1,13 +1,11 @@
 -- What an act notes in the table of names, over the table that the machine had.
-use Rattle.std.proofs.Common.{◌≡◌, ◌≢◌, ℕ, ◌==◌, ◌<◌, cond, IsSome, Option, Some, None, is_some, option_map, refl, sym, ap, ◌∙◌, subst}
-use Rattle.std.proofs.lemmas.Bool.{ltb-true}
+use Rattle.std.proofs.Common.{◌≡◌, ℕ, ◌==◌, cond, Option, Some, None, option_map, refl, ap, ◌∙◌}
 use Rattle.std.proofs.lemmas.Option.{none-some, same_Some}
 use Rattle.sched_base.specs.declared.Answer.{Answer}
-use Rattle.sched_base.specs.declared.Answer.TheVariants as answers
 use Rattle.sched_base.specs.declared.Facts.{Facts}
 use Rattle.trace_machine.specs.declared.names.Standing.{Standing}
 use Rattle.trace_machine.specs.declared.names.Standing.TheVariants as standings
-use Rattle.trace_machine.specs.Machines.{MachineView, Means}
+use Rattle.trace_machine.specs.Machines.{MachineView}
 use Rattle.trace_machine.specs.Yards.{standing_of}
 use Rattle.trace_machine.proofs.TakingActs.{NotesHeld}
 use Rattle.trace_machine.proofs.YardMoves.{IsNoted}

@@ -1,5 +1,5 @@
 -- What the policy finds by a name: its entry, its hand, its sleeper, and the refusals of a pull and a wake.
-use Rattle.std.proofs.Common.{◌≡◌, ◌≢◌, ℕ, ◌==◌, ◌≤◌, Bool, true, false, not, cond, Option, Some, None, count_by, is_none, is_some, refl, sym, ap, ◌∙◌, subst, inl, inr, arith, eq-eqb}
+use Rattle.std.proofs.Common.{◌≡◌, ◌≢◌, ℕ, ◌==◌, ◌≤◌, Bool, true, false, not, cond, Option, Some, None, is_none, refl, sym, ap, ◌∙◌, subst, inl, inr, arith, eq-eqb}
 use Rattle.std.proofs.lemmas.Bool.{cases_eq, ne_eqb}
 use Rattle.link_arena.specs.Arena.{value_at}
 use Rattle.sched_base.specs.declared.Answer.TheVariants as answers
@@ -7,7 +7,7 @@ use Rattle.sched_base.specs.declared.Facts.{Facts}
 use Rattle.sched_base.specs.declared.Place.TheVariants as places
 use Rattle.sched_base.specs.declared.Ticket.{Ticket}
 use Rattle.flat_policy.specs.Policy.ClusterSteps.{named_entry}
-use Rattle.flat_policy.specs.Policy.Machine.{Refusal, Sleeper, Yard, count_queued, flat_at, holds, is_blocked, not_blocked, not_queued, place_of, refuse, sleeper_of}
+use Rattle.flat_policy.specs.Policy.Machine.{Sleeper, Yard, count_queued, flat_at, holds, is_blocked, not_blocked, not_queued, refuse, sleeper_of}
 use Rattle.flat_policy.specs.Policy.Queue.{Flat, Queued}
 use Rattle.trace_machine.specs.declared.names.Standing.{Standing}
 use Rattle.trace_machine.specs.declared.names.Standing.TheVariants as standings

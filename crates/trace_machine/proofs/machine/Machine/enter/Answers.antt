@@ -25,7 +25,7 @@ enter-ticket-requires-clause-room g c =
     let means : MeansOver v y = c.requires.machine.1.2 in
     let parts = ap (λ (w : MachineView). w.parts) c.self.view_is in
     let named = named_thread (hand_of v.parts c.args.actor).thread c.in-Some.name
-        (subst (λ (p : PartsView). option_map (λ (t : Facts). t.name) (hand_of p c.args.actor).thread ≡ Some c.in-Some.name) parts (sym c.held_name.ensures ∙ c.in-Some.is)) in
+    (subst (λ (p : PartsView). option_map (λ (t : Facts). t.name) (hand_of p c.args.actor).thread ≡ Some c.in-Some.name) parts (sym c.held_name.ensures ∙ c.in-Some.is)) in
     subst (λ (p : PartsView). length (cluster_at p c.args.c).flat.entries < p.setup.threads) (sym parts)
     (room_to_enter v y c.args.actor c.args.c named.0 (c.stays.ensures y means).before named.1)
 
@@ -36,7 +36,7 @@ set-requires g c =
     let means : MeansOver v y = c.requires.machine.1.2 in
     let parts = ap (λ (w : MachineView). w.parts) c.self.view_is in
     let named = named_thread (hand_of v.parts c.args.actor).thread c.in-Some.name
-        (subst (λ (p : PartsView). option_map (λ (t : Facts). t.name) (hand_of p c.args.actor).thread ≡ Some c.in-Some.name) parts (sym c.held_name.ensures ∙ c.in-Some.is)) in
+    (subst (λ (p : PartsView). option_map (λ (t : Facts). t.name) (hand_of p c.args.actor).thread ≡ Some c.in-Some.name) parts (sym c.held_name.ensures ∙ c.in-Some.is)) in
     subst (λ (w : MachineView). IsSome (standing_of w.names c.in-Some.name)) (sym c.self.view_is)
     (subst (λ n. IsSome (standing_of v.names n)) named.2
     (ap is_some (held_is v y (known v y means (c.stays.ensures y means)) c.args.actor named.0 named.1)))
@@ -52,15 +52,15 @@ returns g c y means =
     let told = answers.Pri ticket.pri in
     let parts = ap (λ (w : MachineView). w.parts) c.self.view_is in
     let named = named_thread (hand_of v.parts c.args.actor).thread c.in-Some.name
-        (subst (λ (p : PartsView). option_map (λ (t : Facts). t.name) (hand_of p c.args.actor).thread ≡ Some c.in-Some.name) parts (sym c.held_name.ensures ∙ c.in-Some.is)) in
+    (subst (λ (p : PartsView). option_map (λ (t : Facts). t.name) (hand_of p c.args.actor).thread ≡ Some c.in-Some.name) parts (sym c.held_name.ensures ∙ c.in-Some.is)) in
     let t : Facts = named.0 in
     let allowed : (not_allowed v.parts.setup (hand_of v.parts c.args.actor).thread c.args.c).holds ≡ false =
-        subst (λ (p : PartsView). (not_allowed p.setup (hand_of p c.args.actor).thread c.args.c).holds ≡ false) parts (sym c.is_kept_out.ensures ∙ c.if-is_kept_out.false) in
+    subst (λ (p : PartsView). (not_allowed p.setup (hand_of p c.args.actor).thread c.args.c).holds ≡ false) parts (sym c.is_kept_out.ensures ∙ c.if-is_kept_out.false) in
     let does : Does v.parts new.parts c.args.actor c.args.now act told =
-        subst (λ (p : PartsView). Does p new.parts c.args.actor c.args.now act told) parts c.enter-ticket.ensures.does in
+    subst (λ (p : PartsView). Does p new.parts c.args.actor c.args.now act told) parts c.enter-ticket.ensures.does in
     let noted : IsNoted v new t.name (standings.Queued ticket) =
-        subst (λ n. IsNoted v new n (standings.Queued ticket)) (sym named.2)
-        (noted_over v mid new c.in-Some.name (standings.Queued ticket) (ap (λ (w : MachineView). w.names) c.self.view_is) c.set.ensures) in
+    subst (λ n. IsNoted v new n (standings.Queued ticket)) (sym named.2)
+    (noted_over v mid new c.in-Some.name (standings.Queued ticket) (ap (λ (w : MachineView). w.names) c.self.view_is) c.set.ensures) in
     enter_acts v new y c.args.actor c.args.now c.args.c c.args.head t ticket c.requires means (c.stays.ensures y means) named.1
     (ltb-true c.args.c (cluster_count v.parts.setup) c.requires.act_fits)
     allowed does c.enter-ticket.ensures.cluster

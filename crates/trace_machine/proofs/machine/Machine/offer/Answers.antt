@@ -17,9 +17,9 @@ note_held-requires g c = λ name told.
     let means : MeansOver v y = c.requires.machine.1.2 in
     let parts = ap (λ (w : MachineView). w.parts) c.self.view_is in
     let empty = none_from_empty (hand_of v.parts c.args.actor).thread
-        (subst (λ (p : PartsView). is_some (hand_of p c.args.actor).thread ≡ false) parts (sym c.holds.ensures ∙ c.if-holds.false)) in
+    (subst (λ (p : PartsView). is_some (hand_of p c.args.actor).thread ≡ false) parts (sym c.holds.ensures ∙ c.if-holds.false)) in
     let other : c.args.from ≢ home_of v.parts.setup c.args.actor =
-        λ e. c.if-home-from.false (c.home.ensures.home ∙ ap (λ (p : PartsView). home_of p.setup c.args.actor) parts ∙ sym e) in
+    λ e. c.if-home-from.false (c.home.ensures.home ∙ ap (λ (p : PartsView). home_of p.setup c.args.actor) parts ∙ sym e) in
     let does : Does v.parts c.offer-answer.new.self c.args.actor c.args.now act c.offer-answer.result =
     subst (λ (p : PartsView). Does p c.offer-answer.new.self c.args.actor c.args.now act c.offer-answer.result) parts c.offer-answer.ensures in
     subst (λ (w : MachineView). IsSome (standing_of w.names name)) (sym c.self.view_is)
@@ -35,9 +35,9 @@ returns g c y means =
     let mid : MachineView = record { parts = c.offer-answer.new.self; yard = i.yard; names = i.names; steps = i.steps } in
     let parts = ap (λ (w : MachineView). w.parts) c.self.view_is in
     let empty = none_from_empty (hand_of v.parts c.args.actor).thread
-        (subst (λ (p : PartsView). is_some (hand_of p c.args.actor).thread ≡ false) parts (sym c.holds.ensures ∙ c.if-holds.false)) in
+    (subst (λ (p : PartsView). is_some (hand_of p c.args.actor).thread ≡ false) parts (sym c.holds.ensures ∙ c.if-holds.false)) in
     let other : c.args.from ≢ home_of v.parts.setup c.args.actor =
-        λ e. c.if-home-from.false (c.home.ensures.home ∙ ap (λ (p : PartsView). home_of p.setup c.args.actor) parts ∙ sym e) in
+    λ e. c.if-home-from.false (c.home.ensures.home ∙ ap (λ (p : PartsView). home_of p.setup c.args.actor) parts ∙ sym e) in
     let did : Does v.parts mid.parts c.args.actor c.args.now act c.offer-answer.result =
     subst (λ (p : PartsView). Does p mid.parts c.args.actor c.args.now act c.offer-answer.result) parts c.offer-answer.ensures in
     let does : Does v.parts new.parts c.args.actor c.args.now act c.offer-answer.result =

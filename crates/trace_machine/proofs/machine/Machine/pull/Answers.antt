@@ -20,9 +20,9 @@ pull-requires-clause-queued g c =
     let means : MeansOver v y = c.requires.machine.1.2 in
     let parts = ap (λ (w : MachineView). w.parts) c.self.view_is in
     let stands : standing_of v.names c.args.name ≡ Some (standings.Queued c.in-Some.ticket) =
-        subst (λ (w : MachineView). standing_of w.names c.args.name ≡ Some (standings.Queued c.in-Some.ticket)) c.self.view_is (sym c.get-standing.ensures ∙ c.in-Some.ensures.queued) in
+    subst (λ (w : MachineView). standing_of w.names c.args.name ≡ Some (standings.Queued c.in-Some.ticket)) c.self.view_is (sym c.get-standing.ensures ∙ c.in-Some.ensures.queued) in
     let here : c.in-Some.ticket.cluster ≡ home_of v.parts.setup c.args.actor =
-        c.in-Some.ensures.here ∙ c.home.ensures.home ∙ ap (λ (p : PartsView). home_of p.setup c.args.actor) parts in
+    c.in-Some.ensures.here ∙ c.home.ensures.home ∙ ap (λ (p : PartsView). home_of p.setup c.args.actor) parts in
     subst (λ (p : PartsView). IsQueuedAs (cluster_at p (home_of p.setup c.args.actor)) c.args.name c.in-Some.ticket) (sym parts)
     (queued_at_home v y c.args.actor c.args.name c.in-Some.ticket (known v y means (c.stays.ensures y means)) stands here)
 
@@ -32,7 +32,7 @@ returns-in-None g c y means =
     let st = c.get-standing.result in
     let parts = ap (λ (w : MachineView). w.parts) c.self.view_is in
     let empty : is_some (hand_of v.parts c.args.actor).thread ≡ false =
-        subst (λ (p : PartsView). is_some (hand_of p c.args.actor).thread ≡ false) parts (sym c.holds.ensures ∙ c.if-holds.false) in
+    subst (λ (p : PartsView). is_some (hand_of p c.args.actor).thread ≡ false) parts (sym c.holds.ensures ∙ c.if-holds.false) in
     let stands : standing_of v.names c.args.name ≡ st = subst (λ (w : MachineView). standing_of w.names c.args.name ≡ st) c.self.view_is (sym c.get-standing.ensures) in
     let home = c.home.ensures.home ∙ ap (λ (p : PartsView). home_of p.setup c.args.actor) parts in
     let other : is_queued_at (home_of v.parts.setup c.args.actor) st ≡ false = subst (λ h. is_queued_at h st ≡ false) home c.in-None.ensures.other in
@@ -49,13 +49,13 @@ returns-in-Some g c y means =
     let act = acts.Pull c.args.name in
     let parts = ap (λ (w : MachineView). w.parts) c.self.view_is in
     let empty = none_from_empty (hand_of v.parts c.args.actor).thread
-        (subst (λ (p : PartsView). is_some (hand_of p c.args.actor).thread ≡ false) parts (sym c.holds.ensures ∙ c.if-holds.false)) in
+    (subst (λ (p : PartsView). is_some (hand_of p c.args.actor).thread ≡ false) parts (sym c.holds.ensures ∙ c.if-holds.false)) in
     let stands : standing_of v.names c.args.name ≡ Some (standings.Queued c.in-Some.ticket) =
-        subst (λ (w : MachineView). standing_of w.names c.args.name ≡ Some (standings.Queued c.in-Some.ticket)) c.self.view_is (sym c.get-standing.ensures ∙ c.in-Some.ensures.queued) in
+    subst (λ (w : MachineView). standing_of w.names c.args.name ≡ Some (standings.Queued c.in-Some.ticket)) c.self.view_is (sym c.get-standing.ensures ∙ c.in-Some.ensures.queued) in
     let here : c.in-Some.ticket.cluster ≡ home_of v.parts.setup c.args.actor =
-        c.in-Some.ensures.here ∙ c.home.ensures.home ∙ ap (λ (p : PartsView). home_of p.setup c.args.actor) parts in
+    c.in-Some.ensures.here ∙ c.home.ensures.home ∙ ap (λ (p : PartsView). home_of p.setup c.args.actor) parts in
     let does : Does v.parts new.parts c.args.actor c.args.now act answers.Yes =
-        subst (λ (p : PartsView). Does p new.parts c.args.actor c.args.now act answers.Yes) parts c.pull.ensures in
+    subst (λ (p : PartsView). Does p new.parts c.args.actor c.args.now act answers.Yes) parts c.pull.ensures in
     pull_acts v new y c.args.actor c.args.now c.args.name c.in-Some.ticket c.requires means (c.stays.ensures y means) empty stands here does
     (noted_over v mid new c.args.name (standings.Held c.args.actor) (ap (λ (w : MachineView). w.names) c.self.view_is) c.set.ensures)
     (ap (λ (w : MachineView). w.yard) c.self.view_is)

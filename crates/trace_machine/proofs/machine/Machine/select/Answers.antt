@@ -15,7 +15,7 @@ note_held-requires g c = λ name told.
     let means : MeansOver v y = c.requires.machine.1.2 in
     let parts = ap (λ (w : MachineView). w.parts) c.self.view_is in
     let empty = none_from_empty (hand_of v.parts c.args.actor).thread
-        (subst (λ (p : PartsView). is_some (hand_of p c.args.actor).thread ≡ false) parts (sym c.holds.ensures ∙ c.if-holds.false)) in
+    (subst (λ (p : PartsView). is_some (hand_of p c.args.actor).thread ≡ false) parts (sym c.holds.ensures ∙ c.if-holds.false)) in
     let does : Does v.parts c.select-answer.new.self c.args.actor c.args.now acts.Select c.select-answer.result =
     subst (λ (p : PartsView). Does p c.select-answer.new.self c.args.actor c.args.now acts.Select c.select-answer.result) parts c.select-answer.ensures in
     subst (λ (w : MachineView). IsSome (standing_of w.names name)) (sym c.self.view_is)
@@ -30,7 +30,7 @@ returns g c y means =
     let mid : MachineView = record { parts = c.select-answer.new.self; yard = i.yard; names = i.names; steps = i.steps } in
     let parts = ap (λ (w : MachineView). w.parts) c.self.view_is in
     let empty = none_from_empty (hand_of v.parts c.args.actor).thread
-        (subst (λ (p : PartsView). is_some (hand_of p c.args.actor).thread ≡ false) parts (sym c.holds.ensures ∙ c.if-holds.false)) in
+    (subst (λ (p : PartsView). is_some (hand_of p c.args.actor).thread ≡ false) parts (sym c.holds.ensures ∙ c.if-holds.false)) in
     let did : Does v.parts mid.parts c.args.actor c.args.now acts.Select c.select-answer.result =
     subst (λ (p : PartsView). Does p mid.parts c.args.actor c.args.now acts.Select c.select-answer.result) parts c.select-answer.ensures in
     let does : Does v.parts new.parts c.args.actor c.args.now acts.Select c.select-answer.result =
