@@ -1,23 +1,22 @@
 -- A hand's thread enters a queue.
-use Rattle.std.proofs.Common.{◌≡◌, ℕ, ◌+◌, ◌<◌, ◌≤◌, ◌^◌, Bool, Contains, Option, Some, None, length, refl, sym, ap, ◌∙◌, subst, arith}
+use Rattle.std.proofs.Common.{◌≡◌, ℕ, ◌<◌, ◌≤◌, Bool, Contains, Option, Some, refl, sym, ap, ◌∙◌, subst, arith}
 use Rattle.std.specs.Prelude.{slice_set}
 use Rattle.flat_policy.specs.Laws.Clusters.{CallsKeepStanding}
 use Rattle.flat_policy.specs.Laws.Kept.{RisesBy}
 use Rattle.flat_policy.specs.Policy.ClusterSteps.{Event, enter_event}
 use Rattle.flat_policy.specs.Policy.Clusters.{ClusterView, IsCluster, NameStands, SameRoom, entered_in, moment_at}
-use Rattle.flat_policy.specs.Policy.Machine.{Hand, MachineState, Outcome, Yard, empty_hand, enter_outcome, enter_outcome_by, flat_at, with_flat, with_hand}
+use Rattle.flat_policy.specs.Policy.Machine.{Hand, Outcome, Yard, empty_hand, enter_outcome, enter_outcome_by}
 use Rattle.flat_policy.specs.Policy.Moves.{new_entry, settled_thread}
 use Rattle.flat_policy.specs.Policy.Queue.{Flat}
 use Rattle.flat_policy.specs.Policy.Setup.{SetupParts, cluster_count}
 use Rattle.flat_policy.specs.Policy.Threads.{ThreadFits}
-use Rattle.sched_base.specs.declared.Answer.{Answer}
 use Rattle.sched_base.specs.declared.Facts.{Facts}
 use Rattle.sched_base.specs.declared.Act.TheVariants as acts
 use Rattle.sched_base.specs.declared.Answer.TheVariants as answers
 use Rattle.trace_machine.specs.Changes.{ChangesAt}
-use Rattle.trace_machine.specs.Parts.{Does, IsReady, PartsView, Serves, accepted_at, cluster_at, hand_of, state_of}
+use Rattle.trace_machine.specs.Parts.{Does, IsReady, PartsView, accepted_at, cluster_at, hand_of, state_of}
 use Rattle.trace_machine.proofs.Moving.{in_place, there_of}
-use Rattle.trace_machine.proofs.Setting.{ActsAt, GoesOn, changed, cluster_changed, does_at, flat_here, rehanded, rises_less}
+use Rattle.trace_machine.proofs.Setting.{GoesOn, changed, cluster_changed, does_at, flat_here, rehanded, rises_less}
 
 -- the hand's thread fits the setup of a cluster, also once the hand is empty
 pub fits_there : (p mid : PartsView) (a c now : ℕ) (t : Facts) → IsReady p a → c < cluster_count p.setup → (hand_of p a).thread ≡ Some t

@@ -1,15 +1,18 @@
 pub mod ActsTo
 pub mod Asking
-pub mod Elements
+pub mod Beginning
+pub mod Changes
 pub mod Entering
 pub mod Found
 pub mod Frames
+pub mod HandActs
 pub mod Histories
 pub mod InHands
 pub mod Keeping
 pub mod LiveNames
 pub mod Looking
 pub mod Making
+pub mod Moments
 pub mod Moving
 pub mod MovingActs
 pub mod Noting
@@ -19,6 +22,7 @@ pub mod Readings
 pub mod Refusals
 pub mod Setting
 pub mod SleepActs
+pub mod Spots
 pub mod Standing
 pub mod StandingFound
 pub mod TakingActs

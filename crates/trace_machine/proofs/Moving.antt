@@ -1,13 +1,12 @@
 -- Acts that move a thread between a hand and a queue.
-use Rattle.std.proofs.Common.{◌≡◌, ℕ, suc, ◌+◌, ◌*◌, ◌<◌, ◌≤◌, ◌^◌, Bool, true, false, if◌then◌else◌, Contains, Option, Some, None, List, [], ◌∷◌, ◌==◌, find, length, max, slice_set, refl, sym, ap, ◌∙◌, subst, inl, inr, arith}
+use Rattle.std.proofs.Common.{◌≡◌, ℕ, suc, ◌<◌, ◌≤◌, ◌^◌, Bool, true, false, if◌then◌else◌, Contains, Option, Some, None, List, [], ◌∷◌, ◌==◌, find, length, slice_set, refl, sym, ap, ◌∙◌, subst, inl, inr, arith}
 use Rattle.std.proofs.lemmas.Bool.{cases_Bool, cond-false, cond-true}
 use Rattle.std.proofs.lemmas.Option.{none-some, same_Some}
 use Rattle.flat_policy.specs.Laws.Clusters.{CallsKeepStanding}
-use Rattle.flat_policy.specs.Laws.Kept.{RisesBy}
 use Rattle.flat_policy.specs.Policy.ClusterSteps.{Event, facts_of, flat_after_offer, got, named_entry, offer_event, pull_event, select_event, touched}
-use Rattle.flat_policy.specs.Policy.Clusters.{ClusterView, HasNumbers, IsCluster, IsOther, NameStands, SameRoom, after_offer, after_pull, after_select, after_touch, entered_in, moment_at, offer_of, pick_of, standing, without_some}
-use Rattle.flat_policy.specs.Policy.Machine.{Hand, MachineState, Outcome, Yard, filled_hand, flat_at, kept_hand, pull_outcome, taking, taking_hand, with_flat, with_hand}
-use Rattle.flat_policy.specs.Policy.Moves.{new_entry, pick, removed, selected, settled_thread}
+use Rattle.flat_policy.specs.Policy.Clusters.{ClusterView, IsOther, NameStands, after_offer, after_pull, after_select, after_touch, moment_at, offer_of, pick_of, standing, without_some}
+use Rattle.flat_policy.specs.Policy.Machine.{Hand, Outcome, Yard, filled_hand, flat_at, kept_hand, pull_outcome, taking, taking_hand}
+use Rattle.flat_policy.specs.Policy.Moves.{pick, selected}
 use Rattle.flat_policy.specs.Policy.Queue.{Flat, Queued}
 use Rattle.flat_policy.specs.Policy.Setup.{SetupParts, cluster_count, cluster_times, home_of}
 use Rattle.sched_base.specs.declared.Act.{Act}
@@ -18,12 +17,8 @@ use Rattle.sched_base.specs.declared.Act.TheVariants as acts
 use Rattle.sched_base.specs.declared.Answer.TheVariants as answers
 use Rattle.trace_machine.specs.Changes.{ChangesAt}
 use Rattle.trace_machine.specs.Parts.{Does, IsOtherThread, IsReady, PartsView, Serves, accepted_at, cluster_at, hand_of, state_of}
-use Rattle.trace_machine.proofs.Setting.{ActsAt, GoesOn, changed, does_at, flat_here, now_is_effective, rehanded, rises_less}
+use Rattle.trace_machine.proofs.Setting.{GoesOn, changed, does_at, flat_here, now_is_effective, rehanded, rises_less}
 use Rattle.trace_machine.proofs.Touching.{acts_quietly}
-
--- a cluster that serves has numbers left
-pub has_numbers : (setup : SetupParts) (c : ℕ) (v : ClusterView) → Serves setup (2 ^ 50) c v → HasNumbers v.flat
-has_numbers setup c v is = record { arrival = omega (arith, is.arrival); turn = omega (arith, is.turn) }
 
 -- a cluster changes, and then a call sets the hand to one that follows from it
 pub hand_after : (old mid new : PartsView) (c : ℕ) (v : ClusterView) (a : ℕ) (f : SetupParts → Hand → Hand)

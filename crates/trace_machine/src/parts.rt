@@ -10,6 +10,7 @@ ghost use Rattle.flat_policy.specs.Policy.Setup.{actor_count, cluster_count, hom
 ghost use Rattle.trace_machine.specs.Parts.{AllServe, Does, IsQueuedAs, IsReady, cluster_at, hand_of, state_of};
 
 mod asking;
+mod clusters;
 mod hands;
 mod making;
 mod moving;

@@ -1,8 +1,10 @@
 //! Steps, one and many.
 
-ghost use Rattle.std.specs.Prelude.{◌≡◌, ◌<◌, ◌≤◌, ◌+◌, ◌^◌, Contains, IfOk, IsTrue, None, OnErr, OnOk, length, map};
+ghost use Rattle.std.specs.Prelude.{◌≡◌, ◌<◌, ◌≤◌, ◌+◌, ◌^◌, Contains, IfOk, IsTrue, None, Some, OnErr, OnOk, length, map, ℕ};
 ghost use Rattle.sched_base.specs.declared.Step.{Step as StepTaken};
-ghost use Rattle.flat_policy.specs.Policy.Machine.{MachineState, Yard, effective_moment, first_refusal, fits_step, refusal, refusals_by, replies, states_after};
+ghost use Rattle.sched_base.specs.declared.Spot.TheVariants as spots;
+ghost use Rattle.flat_policy.specs.Policy.Machine.{MachineState, Yard, effective_moment, first_refusal, fits_act, fits_step, last_at, refusal, refusals_by, replies, site_of, spot_from, states_after};
+ghost use Rattle.flat_policy.specs.Policy.Setup.{actor_count, cluster_count, home_of};
 ghost use Rattle.trace_machine.specs.Acting.{Acts, IsSet, KeepsOn};
 ghost use Rattle.trace_machine.specs.Machines.{IsMachine, Means, MeansOver, StepsTo, reply_in};
 ghost use Rattle.trace_machine.specs.Parts.{hand_of, state_of};
@@ -13,8 +15,31 @@ use flat_policy::cluster::Cluster;
 use flat_policy::laws::{
     place_is_the_one, place_is_where_it_stands, runs_keep_counts, runs_stay_sound, runs_stay_within,
 };
-use sched_base::{Act, Answer, Step};
+use sched_base::{Act, Answer, Spot, Step};
 use std::alloc::{AllocError, Global};
+
+/// The place of an act, for an actor of a home: a cluster, the yard, or none.
+fn spot_from(home: u8, act: &Act) -> Option<Spot>
+    ensures { result ≡ spot_from home (site_of act.now) }
+{
+    match *act {
+        Act::Make { .. } => Some(Spot::Yard),
+        Act::Enter { cluster, .. } => Some(Spot::Cluster(cluster)),
+        Act::Select => Some(Spot::Cluster(home)),
+        Act::Offer { cluster } => Some(Spot::Cluster(cluster)),
+        Act::Pull { .. } => Some(Spot::Cluster(home)),
+        Act::Look { cluster } => Some(Spot::Cluster(cluster)),
+        Act::Aim => None,
+        Act::Ran { .. } => None,
+        Act::Sleep => Some(Spot::Yard),
+        Act::Wake { .. } => Some(Spot::Yard),
+        Act::End => Some(Spot::Yard),
+        Act::Blocked => Some(Spot::Yard),
+        Act::Refresh => Some(Spot::Cluster(home)),
+        Act::Off { cluster } => Some(Spot::Cluster(cluster)),
+        Act::On { cluster } => Some(Spot::Cluster(cluster)),
+    }
+}
 
 impl<K: Cluster> Machine<K> {
     /// Takes a step that the setup fits, and replies as the policy does: the step's effective moment
@@ -47,20 +72,19 @@ impl<K: Cluster> Machine<K> {
         ensures { (y : Yard) → MeansOver self.now y → result ≡ effective_moment self.now.parts.setup (state_of self.now.parts y) s.now }
     {
         self.stays();
-        let actor = s.moment.max(self.parts.hand_last(s.actor));
-        match s.act {
-            Act::Select | Act::Pull { .. } | Act::Refresh => {
-                actor.max(self.parts.cluster_last(self.parts.home(s.actor)))
-            }
-            Act::Enter { cluster, .. }
-            | Act::Offer { cluster }
-            | Act::Look { cluster }
-            | Act::Off { cluster }
-            | Act::On { cluster } => actor.max(self.parts.cluster_last(cluster)),
-            Act::Make { .. } | Act::Sleep | Act::Wake { .. } | Act::End | Act::Blocked => {
-                actor.max(self.yard.last())
-            }
-            Act::Aim | Act::Ran { .. } => actor,
+        let own = s.moment.max(self.parts.hand_last(s.actor));
+        own.max(self.spot_last(spot_from(self.parts.home(s.actor), &s.act)))
+    }
+
+    /// The last moment of a place, 0 for none.
+    fn spot_last(&self, spot: Option<Spot>) -> u64
+        requires { (c : ℕ) → spot ≡ Some (spots.Cluster c) → c < length self.now.parts.clusters }
+        ensures { (y : Yard) → self.now.yard.last ≡ y.last → result ≡ last_at (state_of self.now.parts y) spot }
+    {
+        match spot {
+            Some(Spot::Cluster(c)) => self.parts.cluster_last(c),
+            Some(Spot::Yard) => self.yard.last(),
+            None => 0,
         }
     }
 

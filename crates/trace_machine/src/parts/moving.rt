@@ -2,25 +2,21 @@
 
 ghost use Rattle.sched_base.specs.declared.Act.TheVariants as acts;
 ghost use Rattle.sched_base.specs.declared.Answer.TheVariants as answers;
-ghost use Rattle.std.specs.Prelude.{◌≡◌, ◌≢◌, ◌<◌, ◌≤◌, Contains, IsSome, None, Option, Some, false, length, slice_set, ℕ};
+ghost use Rattle.std.specs.Prelude.{◌≡◌, ◌≢◌, ◌<◌, ◌≤◌, IsSome, None, Option, Some, false, length, slice_set};
 ghost use Rattle.sched_base.specs.declared.Facts.{Facts};
-ghost use Rattle.flat_policy.specs.Policy.Aim.{MayEnter};
 ghost use Rattle.flat_policy.specs.Policy.BuiltSetups.{IsSetup};
-ghost use Rattle.flat_policy.specs.Policy.Clusters.{HasNumbers, NameStands, after_offer, after_pull, after_select, after_touch, entered_in, moment_at, offer_of, pick_of, standing};
+ghost use Rattle.flat_policy.specs.Policy.Clusters.{NameStands};
 ghost use Rattle.flat_policy.specs.Policy.ClusterSteps.{facts_of, got};
 ghost use Rattle.flat_policy.specs.Policy.Machine.{not_allowed, taking_hand};
-ghost use Rattle.flat_policy.specs.Policy.Moves.{new_entry, settled_thread};
 ghost use Rattle.flat_policy.specs.Policy.Queue.{Queued};
-ghost use Rattle.flat_policy.specs.Policy.Setup.{actor_count, cluster_count, home_of};
-ghost use Rattle.flat_policy.specs.Policy.Threads.{ThreadFits};
-ghost use Rattle.trace_machine.specs.Changes.{ChangesAt};
-ghost use Rattle.trace_machine.specs.Parts.{Does, IsQueuedAs, IsReady, Serves, cluster_at, hand_of};
+ghost use Rattle.flat_policy.specs.Policy.Setup.{cluster_count, home_of};
+ghost use Rattle.trace_machine.specs.Parts.{Does, IsQueuedAs, IsReady, cluster_at, hand_of};
 
 use super::Parts;
 use flat_policy::cluster::Cluster;
 use flat_policy::laws::calls_keep_standing;
-use sched_base::limits::{MOMENT_LIMIT, MOST_THREADS};
-use sched_base::{Act, Answer, Thread, Ticket};
+use sched_base::limits::MOMENT_LIMIT;
+use sched_base::{Answer, Thread, Ticket};
 
 impl<K: Cluster> Parts<K> {
     /// The hand's thread enters the queue of a cluster, at the head or the tail of its equals.
@@ -92,92 +88,6 @@ impl<K: Cluster> Parts<K> {
             Some(thread) => self.fill(actor, thread, now),
             None => unreachable!(),
         }
-    }
-
-    /// Whether a cluster is on.
-    fn is_on(&self, c: u8) -> bool
-        requires { c < length self.now.clusters }
-        ensures { result ≡ (cluster_at self.now c).flat.on }
-    {
-        self.clusters[c as usize].is_on()
-    }
-
-    /// Sets the last moment of a cluster alone.
-    fn touch_at(&mut self, c: u8, now: u64)
-        requires there { c < length self.old.clusters }
-        requires moment { now < MOMENT_LIMIT }
-        ensures { ChangesAt self.old self.new c (after_touch (cluster_at self.old c) now) 0 0 }
-    {
-        let cluster = &mut self.clusters[c as usize];
-        cluster.keeps();
-        cluster.touch(now);
-    }
-
-    /// A thread enters the queue of a cluster.
-    fn enter_at(&mut self, c: u8, thread: Thread, head: bool, now: u64) -> Ticket
-        requires there { c < length self.old.clusters }
-        requires spare { 1 ≤ (cluster_at self.old c).spare }
-        requires few { length (cluster_at self.old c).flat.entries < MOST_THREADS }
-        requires fits { ThreadFits (cluster_at self.old c).setup thread }
-        requires may { MayEnter (cluster_at self.old c).setup thread (cluster_at self.old c).number }
-        requires moment { now < MOMENT_LIMIT }
-        requires numbers { HasNumbers (cluster_at self.old c).flat }
-        ensures changes { ChangesAt self.old self.new c (entered_in (cluster_at self.old c) thread head now result.slot) 1 1 }
-        ensures slot { ¬ Contains (cluster_at self.old c).slots result.slot }
-        ensures cluster { result.cluster ≡ (cluster_at self.old c).number }
-        ensures arrival { result.arrival ≡ (cluster_at self.old c).flat.next_arrival }
-        ensures pri { result.pri ≡ (new_entry (cluster_at self.old c).flat (settled_thread (moment_at (cluster_at self.old c) now) thread) head).pri }
-    {
-        let cluster = &mut self.clusters[c as usize];
-        cluster.keeps();
-        cluster.enter(thread, head, now)
-    }
-
-    /// The pick leaves the queue of a cluster.
-    fn select_at(&mut self, c: u8, now: u64) -> Option<Thread>
-        requires there { c < length self.old.clusters }
-        requires moment { now < MOMENT_LIMIT }
-        requires numbers { HasNumbers (cluster_at self.old c).flat }
-        ensures picked { result ≡ facts_of (pick_of (cluster_at self.old c) now) }
-        ensures changes { ChangesAt self.old self.new c (after_select (cluster_at self.old c) now) 0 1 }
-    {
-        let cluster = &mut self.clusters[c as usize];
-        cluster.keeps();
-        cluster.select(now)
-    }
-
-    /// The thread that a cluster offers to another leaves its queue.
-    fn offer_at(&mut self, from: u8, to: u8, now: u64) -> Option<Thread>
-        requires built { IsSetup self.old.setup }
-        requires there { from < length self.old.clusters }
-        requires from { from < cluster_count self.old.setup }
-        requires to { to < cluster_count self.old.setup }
-        requires other { to ≢ from }
-        requires of_setup { (cluster_at self.old from).setup ≡ self.old.setup }
-        requires number { (cluster_at self.old from).number ≡ from }
-        requires moment { now < MOMENT_LIMIT }
-        requires numbers { HasNumbers (cluster_at self.old from).flat }
-        ensures offered { result ≡ facts_of (offer_of (cluster_at self.old from) to) }
-        ensures changes { ChangesAt self.old self.new from (after_offer (cluster_at self.old from) to now) 0 1 }
-    {
-        let cluster = &mut self.clusters[from as usize];
-        cluster.keeps();
-        let rebalance = self.edges.migrate(from, to);
-        let mask = self.edges.mask(from, to, cluster.is_on());
-        cluster.offer(to, rebalance, mask, now)
-    }
-
-    /// The entry that a ticket names leaves the queue of a cluster.
-    fn pull_at(&mut self, c: u8, ticket: Ticket, now: u64) -> Option<Thread>
-        requires there { c < length self.old.clusters }
-        requires moment { now < MOMENT_LIMIT }
-        requires numbers { HasNumbers (cluster_at self.old c).flat }
-        ensures pulled { result ≡ facts_of (standing (cluster_at self.old c) ticket.slot ticket.arrival) }
-        ensures changes { ChangesAt self.old self.new c (after_pull (cluster_at self.old c) (standing (cluster_at self.old c) ticket.slot ticket.arrival) now) 0 1 }
-    {
-        let cluster = &mut self.clusters[c as usize];
-        cluster.keeps();
-        cluster.pull(ticket, now)
     }
 
     /// Takes what a queue gave into an empty hand, and tells its name. The clusters and the other

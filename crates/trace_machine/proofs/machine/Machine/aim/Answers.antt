@@ -5,7 +5,7 @@ use Rattle.flat_policy.specs.Policy.Machine.{kept_hand}
 use Rattle.trace_machine.specs.Machines.{MachineView}
 use Rattle.trace_machine.specs.Parts.{PartsView, hand_of}
 use Rattle.trace_machine.proofs.Setting.{rehanded}
-use Rattle.trace_machine.proofs.Looking.{aim_acts, aim_lacks}
+use Rattle.trace_machine.proofs.HandActs.{aim_acts, aim_lacks}
 use Rattle.trace_machine.proofs.machine.Machine.aim.Goals as goal
 
 pub returns-in-Ok : goal.returns-in-Ok

@@ -2,7 +2,7 @@ use Rattle.std.proofs.Common.{◌≡◌, ap, sym, subst, true, is_some, ◌∙�
 use Rattle.sched_base.specs.declared.Act.TheVariants as acts
 use Rattle.trace_machine.specs.Machines.{MachineView}
 use Rattle.trace_machine.specs.Parts.{Does, PartsView, hand_of}
-use Rattle.trace_machine.proofs.Looking.{look_acts}
+use Rattle.trace_machine.proofs.HandActs.{look_acts}
 use Rattle.trace_machine.proofs.machine.Machine.look.Goals as goal
 
 pub returns : goal.returns

@@ -3,7 +3,7 @@ use Rattle.sched_base.specs.declared.Act.TheVariants as acts
 use Rattle.sched_base.specs.declared.Answer.TheVariants as answers
 use Rattle.trace_machine.specs.Machines.{MachineView}
 use Rattle.trace_machine.specs.Parts.{Does, PartsView, hand_of}
-use Rattle.trace_machine.proofs.Looking.{ran_acts}
+use Rattle.trace_machine.proofs.HandActs.{ran_acts}
 use Rattle.trace_machine.proofs.machine.Machine.ran.Goals as goal
 
 pub returns : goal.returns

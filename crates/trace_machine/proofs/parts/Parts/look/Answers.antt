@@ -4,7 +4,8 @@ use Rattle.flat_policy.specs.Policy.Setup.{SetupParts, cluster_count}
 use Rattle.sched_base.specs.declared.Answer.TheVariants as answers
 use Rattle.trace_machine.specs.Parts.{PartsView, hand_of}
 use Rattle.trace_machine.proofs.Readings.{cluster_read, hand_read}
-use Rattle.trace_machine.proofs.Touching.{hand_looked, looks_off, looks_on, some_held}
+use Rattle.trace_machine.proofs.Looking.{hand_looked, looks_off, looks_on}
+use Rattle.trace_machine.proofs.Touching.{some_held}
 use Rattle.trace_machine.proofs.parts.Parts.look.Goals as goal
 
 pub returns-then-not-is_on : goal.returns-then-not-is_on

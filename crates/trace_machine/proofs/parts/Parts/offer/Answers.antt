@@ -1,8 +1,8 @@
-use Rattle.std.proofs.Common.{sym, ap, ◌∙◌, subst}
+-- What the cluster offers to the home comes into the hand.
+use Rattle.std.proofs.Common.{◌≡◌, Option, sym, subst}
 use Rattle.sched_base.specs.declared.Answer.{Answer}
 use Rattle.sched_base.specs.declared.Facts.{Facts}
 use Rattle.sched_base.specs.declared.Act.TheVariants as acts
-use Rattle.std.proofs.Common.{Option}
 use Rattle.flat_policy.specs.Policy.Clusters.{offer_of}
 use Rattle.flat_policy.specs.Policy.Machine.{taking_hand}
 use Rattle.trace_machine.specs.Parts.{Does, cluster_at, hand_of}
@@ -19,4 +19,4 @@ returns g c =
     (offers old mid c.take.new.self c.args.actor c.args.now c.args.from c.home-home.result c.calls_keep_standing.ensures
     c.requires.ready c.home-home.ensures.home c.requires.cluster c.requires.later
     c.offer_at-offered.ensures.changes
-    (c.take.ensures.parts ∙ ap (λ (given : Option Facts). rehanded mid c.args.actor (taking_hand mid.setup (hand_of mid c.args.actor) given c.args.now)) c.offer_at-offered.ensures.offered))
+    (subst (λ (given : Option Facts). c.take.new.self ≡ rehanded mid c.args.actor (taking_hand mid.setup (hand_of mid c.args.actor) given c.args.now)) c.offer_at-offered.ensures.offered c.take.ensures.parts))

@@ -1,6 +1,6 @@
-use Rattle.std.proofs.Common.{Option, Some, sym, ap, ◌∙◌, subst}
+-- The entry that the ticket names comes into the hand.
+use Rattle.std.proofs.Common.{Option, sym, ap, ◌∙◌, subst}
 use Rattle.std.proofs.lemmas.Option.{same_Some}
-use Rattle.flat_policy.specs.Policy.Clusters.{standing}
 use Rattle.flat_policy.specs.Policy.ClusterSteps.{facts_of}
 use Rattle.flat_policy.specs.Policy.Queue.{Queued}
 use Rattle.trace_machine.specs.Parts.{IsQueuedAs, cluster_at}

@@ -1,22 +1,20 @@
--- What the element's call says, of the cluster by its number.
-use Rattle.std.proofs.Common.{map, sym, ap, ◌∙◌}
-use Rattle.std.proofs.Math.ListN.{set}
+-- What the call says of the element, of the cluster by its number.
+use Rattle.std.proofs.Common.{◌≡◌, sym, subst}
 use Rattle.flat_policy.specs.Policy.Clusters.{ClusterView, after_pull, standing}
 use Rattle.flat_policy.specs.Policy.ClusterSteps.{facts_of}
-use Rattle.trace_machine.specs.Parts.{PartsView}
-use Rattle.trace_machine.proofs.Elements.{at_element, changes_element}
+use Rattle.trace_machine.proofs.Changes.{cluster_written}
+use Rattle.trace_machine.proofs.Readings.{cluster_read}
 use Rattle.trace_machine.proofs.parts.Parts.pull_at.Goals as goal
 
 pub returns-clause-pulled : goal.returns-clause-pulled
 returns-clause-pulled g c =
-    let at = at_element g.K.Cluster.view c.args.self.now c.self.inside.clusters.items c.args.c c.index_mut-cluster.result.now
-    (ap (λ (p : PartsView). p.clusters) (sym c.self.view_is)) c.requires.there c.index_mut-cluster.ensures.value in
-    c.pull.ensures.pulled ∙ ap (λ (v : ClusterView). facts_of (standing v c.args.ticket.slot c.args.ticket.arrival)) (sym at)
+    let at = cluster_read g.K.Cluster.view c.self.inside.setup c.self.inside.clusters.items c.self.inside.hands.items c.args.self.now c.args.c c.index_mut-cluster.result.now
+    c.self.view_is c.requires.there c.index_mut-cluster.ensures.value in
+    subst (λ (v : ClusterView). c.pull.result ≡ facts_of (standing v c.args.ticket.slot c.args.ticket.arrival)) (sym at) c.pull.ensures.pulled
 
 pub returns-clause-changes : goal.returns-clause-changes
 returns-clause-changes g c =
-    changes_element g.K.Cluster.view c.args.self.now _ c.self.inside.clusters.items c.args.c c.index_mut-cluster.result.now c.pull.new.self
+    cluster_written g.K.Cluster.view c.self.inside.setup c.self.inside.clusters.items c.self.inside.hands.items c.args.self.now c.args.c c.index_mut-cluster.result.now c.pull.new.self
     (λ (v : ClusterView). after_pull v (standing v c.args.ticket.slot c.args.ticket.arrival) c.args.now) 0 1
-    (ap (λ (p : PartsView). p.clusters) (sym c.self.view_is)) c.requires.there c.index_mut-cluster.ensures.value
-    (ap (λ (p : PartsView). record p { clusters = map g.K.Cluster.view (set c.self.inside.clusters.items c.args.c c.pull.new.self) }) c.self.view_is)
+    c.self.view_is c.requires.there c.index_mut-cluster.ensures.value
     c.pull.ensures.view c.keeps.ensures c.pull.ensures.rises c.pull.ensures.room

@@ -1,4 +1,5 @@
-use Rattle.std.proofs.Common.{Option, sym, ap, ◌∙◌, subst}
+-- The pick of a home that is on comes into the hand; a home that is off is touched alone.
+use Rattle.std.proofs.Common.{◌≡◌, Option, sym, ◌∙◌, subst}
 use Rattle.sched_base.specs.declared.Answer.{Answer}
 use Rattle.sched_base.specs.declared.Facts.{Facts}
 use Rattle.sched_base.specs.declared.Act.TheVariants as acts
@@ -24,4 +25,4 @@ returns g c =
     (selects old mid c.take.new.self c.args.actor c.args.now c.home-home.result c.calls_keep_standing.ensures
     c.requires.ready c.home-home.ensures.home c.home-home.ensures.below c.requires.later (sym c.is_on.ensures ∙ c.if-not-is_on.false)
     c.select_at-picked.ensures.changes
-    (c.take.ensures.parts ∙ ap (λ (given : Option Facts). rehanded mid c.args.actor (taking_hand mid.setup (hand_of mid c.args.actor) given c.args.now)) c.select_at-picked.ensures.picked))
+    (subst (λ (given : Option Facts). c.take.new.self ≡ rehanded mid c.args.actor (taking_hand mid.setup (hand_of mid c.args.actor) given c.args.now)) c.select_at-picked.ensures.picked c.take.ensures.parts))
