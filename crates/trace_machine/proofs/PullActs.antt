@@ -16,8 +16,8 @@ use Rattle.trace_machine.specs.Yards.{is_queued_at, standing_of}
 use Rattle.trace_machine.proofs.ActsTo.{refused_by}
 use Rattle.trace_machine.proofs.Found.{found_passes}
 use Rattle.trace_machine.proofs.MovingActs.{hand_by, hands_after, move_acts}
-use Rattle.trace_machine.proofs.Setting.{hand_changed}
-use Rattle.trace_machine.proofs.Standing.{KnowsPlaces, flat_is}
+use Rattle.trace_machine.proofs.Setting.{flat_here, hand_changed}
+use Rattle.trace_machine.proofs.Standing.{KnowsPlaces}
 use Rattle.trace_machine.proofs.StandingFound.{not_queued_is, queued_is}
 use Rattle.trace_machine.proofs.YardActs.{actor_within, known}
 use Rattle.trace_machine.proofs.YardMoves.{IsNoted, apart_from_sleepers, refusal_none}
@@ -53,7 +53,7 @@ pull_acts old new y a now name ticket set means keeps empty stands here does not
     let g : MachineState = state_of old.parts y in
     let queued = queued_at_home old y a name ticket k stands here in
     let e : Queued = queued.0 in
-    let found : named_entry (flat_at g home) name ≡ Some e = ap (λ (s : Flat). named_entry s name) (flat_is old.parts y home) ∙ queued.2 in
+    let found : named_entry (flat_at g home) name ≡ Some e = ap (λ (s : Flat). named_entry s name) (flat_here old.parts y home) ∙ queued.2 in
     let named : e.facts.name ≡ name =
     eqb-true e.facts.name name (found_passes (λ (q : Queued). q.facts.name == name) (cluster_at old.parts home).flat.entries e queued.2) in
     let comes : accepted_at old.parts y a now (acts.Pull name) ≡ taking old.parts.setup g a (hand_of old.parts a) home now (pull_event e now (flat_at g home)) =

@@ -24,10 +24,10 @@ use Rattle.trace_machine.specs.Parts.{Does, IsOtherThread, PartsView, accepted_a
 use Rattle.trace_machine.specs.Yards.{sleeper_in, standing_of}
 use Rattle.trace_machine.proofs.ActsTo.{accepted_is, quiet_acts, quiet_from, refused_by}
 use Rattle.trace_machine.proofs.Found.{member_counted}
-use Rattle.trace_machine.proofs.LiveNames.{few_counted, hand_and_yard, made_where_counted}
+use Rattle.trace_machine.proofs.LiveNames.{hand_and_yard, made_where_counted}
 use Rattle.trace_machine.proofs.MovingActs.{hand_by, move_acts}
 use Rattle.trace_machine.proofs.Setting.{hand_changed}
-use Rattle.trace_machine.proofs.Standing.{used_is}
+use Rattle.trace_machine.proofs.Standing.{counted_once, used_is}
 use Rattle.trace_machine.proofs.YardActs.{actor_within, known}
 use Rattle.trace_machine.proofs.YardMoves.{IsNoted, refusal_none}
 
@@ -126,7 +126,7 @@ taken_apart old new y a now act told m t means keeps is slot w there same =
       arith,
       held_counts new y a t (taken_hand old new y a now act told m t is),
       hand_and_yard (state_of new y) a t.name,
-      few_counted (state_of new y) t.name (once_after old new y a now act told m means keeps),
+      counted_once (state_of new y) t.name (once_after old new y a now act told m means keeps),
       member_counted (λ (s : Sleeper). s.facts.name == t.name) y.blocked (sleeper_in w) (means.yard.blocked slot w there) (eq-eqb w.thread.name t.name same),
     )
 
