@@ -1,5 +1,5 @@
 -- Refusals of acts that would move a thread, by what a machine in code tests.
-use Rattle.std.proofs.Common.{◌≡◌, ◌≢◌, ℕ, ◌==◌, ◌-◌, ◌≤◌, Bool, true, false, not, List, [], ◌∷◌, Option, Some, None, is_none, is_some, length, nat_le, refl, sym, ap, ◌∙◌, arith, eq-eqb}
+use Rattle.std.proofs.Common.{◌≡◌, ◌≢◌, ℕ, ◌==◌, ◌-◌, ◌≤◌, Bool, true, false, not, List, [], ◌∷◌, Option, Some, None, is_none, is_some, length, refl, sym, ap, ◌∙◌, arith, eq-eqb}
 use Rattle.std.proofs.lemmas.Bool.{cond-false, cond-true, false≢true, le-leb, ne_eqb}
 use Rattle.sched_base.specs.declared.Act.TheVariants as acts
 use Rattle.sched_base.specs.declared.Answer.{Answer}
@@ -13,11 +13,10 @@ use Rattle.trace_machine.specs.declared.names.Standing.{Standing}
 use Rattle.trace_machine.specs.declared.names.Standing.TheVariants as standings
 use Rattle.trace_machine.specs.Machines.{MachineView}
 use Rattle.trace_machine.specs.Parts.{hand_of, state_of}
-use Rattle.trace_machine.specs.Yards.{place_in, standing_of}
+use Rattle.trace_machine.specs.Yards.{is_queued_at, place_in, standing_of}
 use Rattle.trace_machine.proofs.ActsTo.{refused_by}
 use Rattle.trace_machine.proofs.Standing.{KnowsPlaces, used_is}
-use Rattle.trace_machine.proofs.StandingFound.{is_queued_at, is_resting, not_blocked_is, not_queued_is}
-use Rattle.trace_machine.proofs.YardMoves.{refusal_none}
+use Rattle.trace_machine.proofs.StandingFound.{is_resting, not_blocked_is, not_queued_is}
 
 -- a refusal that holds comes, and one that doesn't leaves it to the next
 pub refusal_comes : (r : Refusal) (rs : List Refusal) → r.holds ≡ true → first_refusal (r ∷ rs) ≡ Some r.answer

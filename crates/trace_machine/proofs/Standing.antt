@@ -21,6 +21,7 @@ use Rattle.trace_machine.specs.Machines.{HasYard, MachineView, MeansOver, Stands
 use Rattle.trace_machine.specs.Parts.{PartsView, cluster_at, no_cluster, state_of}
 use Rattle.trace_machine.specs.Yards.{place_in, sleeper_in, standing_of}
 use Rattle.trace_machine.proofs.Found.{contains_here, contains_later, counted_from_any, found_none, member_counted, none_from_uncounted}
+use Rattle.trace_machine.proofs.Setting.{flat_here}
 
 -- what is known of a machine's names: its yard, where each name stands, that each is in one place, and that this is the place that is told
 pub record KnowsPlaces (v : MachineView) (y : Yard) : Type 0 where
@@ -37,10 +38,6 @@ knows_places v y m counts law = record {
   once = counts v.parts.setup m.history.0 (state_of v.parts y) m.history.1;
   law = law;
 }
-
--- the queue of a cluster in code
-pub flat_is : (p : PartsView) (y : Yard) (c : ℕ) → flat_at (state_of p y) c ≡ (cluster_at p c).flat
-flat_is p y c = get_or-map (λ (v : ClusterView). v.flat) p.clusters c (no_cluster p.setup)
 
 -- an entry that stands in a slot is one of the entries
 pub standing_member : (slot arrival : ℕ) (es : List Queued) (slots : List ℕ) (e : Queued) → standing_among slot arrival es slots ≡ Some e → Contains es e
@@ -59,7 +56,7 @@ stands_counted : (v : MachineView) (y : Yard) (name : ℕ) (s : Standing) → Ha
 stands_counted v y name (standings.Queued t) yard there =
     let e : Queued = there.1.0 in
     let c = standing_member t.slot t.arrival (cluster_at v.parts t.cluster).flat.entries (cluster_at v.parts t.cluster).slots e there.1.1 in
-    subst (λ (s : Flat). 1 ≤ count_queued name s) (sym (flat_is v.parts y t.cluster))
+    subst (λ (s : Flat). 1 ≤ count_queued name s) (sym (flat_here v.parts y t.cluster))
     (member_counted (λ (q : Queued). q.facts.name == name) (cluster_at v.parts t.cluster).flat.entries e c (eq-eqb e.facts.name name there.1.2))
 stands_counted v y name (standings.Held a) yard there =
     let t : Facts = there.1.0 in

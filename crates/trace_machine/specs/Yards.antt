@@ -1,5 +1,5 @@
 -- The yard of a machine in code: blocked threads in slots, the number of live threads, and where each name stands.
-use Rattle.std.specs.Prelude.{List, None, Option, Some, ℕ}
+use Rattle.std.specs.Prelude.{Bool, List, None, Option, Some, false, ℕ, ◌==◌}
 use Rattle.std.specs.BTreeMap.{is_at}
 use Rattle.std.specs.Map.{lookup}
 use Rattle.std.specs.Ordering.{nat_cmp}
@@ -40,3 +40,11 @@ slot_in (Some (standings.Queued t)) = None
 slot_in (Some (standings.Held a)) = None
 slot_in (Some (standings.Blocked slot)) = Some slot
 slot_in (Some standings.Ended) = None
+
+-- whether a standing is one in the queue of a cluster
+abbrev pub is_queued_at : ℕ → Option Standing → Bool
+is_queued_at c None = false
+is_queued_at c (Some (standings.Queued t)) = t.cluster == c
+is_queued_at c (Some (standings.Held a)) = false
+is_queued_at c (Some (standings.Blocked slot)) = false
+is_queued_at c (Some standings.Ended) = false
