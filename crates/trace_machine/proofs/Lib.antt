@@ -15,6 +15,7 @@ pub mod Making
 pub mod Moments
 pub mod Moving
 pub mod MovingActs
+pub mod Noting
 pub mod PullActs
 pub mod QueueRoom
 pub mod Readings

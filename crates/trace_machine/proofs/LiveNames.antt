@@ -1,5 +1,5 @@
 -- How many names may be away from the queues: no more are blocked, ended and in one hand than were made.
-use Rattle.std.proofs.Common.{◌≡◌, ℕ, ◌==◌, ◌||◌, ◌+◌, ◌≤◌, ◌<◌, Bool, true, false, cond, List, [], ◌∷◌, ◌++◌, Option, Some, None, count_by, length, map, sum_by, refl, sym, ap, ap₂, ◌∙◌, inl, inr, arith, eq-eqb, eqb}
+use Rattle.std.proofs.Common.{◌≡◌, ℕ, ◌==◌, ◌||◌, ◌+◌, ◌≤◌, true, false, cond, List, [], ◌∷◌, ◌++◌, Option, Some, count_by, length, map, refl, sym, ap, ap₂, ◌∙◌, inl, inr, arith, eq-eqb, eqb}
 use Rattle.std.specs.List.{AllByRecursion, IsDistinct, list_any}
 use Rattle.std.specs.Set.{is_member}
 use Rattle.std.proofs.lemmas.Bool.{cases_Bool, cases_eq, cases_lt, ne_eqb, or_parts}
@@ -11,6 +11,7 @@ use Rattle.sched_base.specs.declared.Facts.{Facts}
 use Rattle.flat_policy.specs.Laws.Counts.{EachNameOnce}
 use Rattle.flat_policy.specs.Policy.Machine.{MachineState, Sleeper, Yard, count_held, count_in_yard, hand_at, holds, no_hand, place_count}
 use Rattle.trace_machine.proofs.Found.{counted_from_any, none_from_uncounted}
+use Rattle.trace_machine.proofs.Standing.{counted_once}
 
 same_test : (q n : ℕ) → eqb q n ≡ (n == q)
 same_test q n =
@@ -74,19 +75,12 @@ made_where_counted g name once some =
       | inr never ↦ absurd (omega (arith, once name, some, ap {B = ℕ} (λ b. cond b 1 0) never))
     ]
 
-pub few_counted : (g : MachineState) (name : ℕ) → EachNameOnce g → place_count g name ≤ 1
-few_counted g name once =
-    elim (cases_Bool (list_any (λ n. n == name) g.yard.made)) [
-      | inl made ↦ omega (arith, once name, ap {B = ℕ} (λ b. cond b 1 0) made)
-      | inr never ↦ omega (arith, once name, ap {B = ℕ} (λ b. cond b 1 0) never)
-    ]
-
 -- no more names are blocked and ended than were made
 pub away_within : (g : MachineState) → EachNameOnce g → length g.yard.blocked + length g.yard.ended ≤ length g.yard.made
 away_within g once =
     let y : Yard = g.yard in
     let few = no_more (names_away y) y.made
-    (λ q. omega (arith, count_away q y, few_counted g q once))
+    (λ q. omega (arith, count_away q y, counted_once g q once))
     (λ q some. made_where_counted g q once (omega (arith, some, count_away q y))) in
     omega (arith, few, length-append (map name_of y.blocked) y.ended, length-map y.blocked name_of)
 
@@ -112,6 +106,6 @@ held_within g a t once holding =
       ap {B = ℕ} (λ (o : Option Facts). cond (holds q o) 1 0) holding,
     ) in
     let few = no_more (t.name ∷ names_away y) y.made
-    (λ q. omega (arith, held q, few_counted g q once))
+    (λ q. omega (arith, held q, counted_once g q once))
     (λ q some. made_where_counted g q once (omega (arith, some, held q))) in
     omega (arith, few, length-append (map name_of y.blocked) y.ended, length-map y.blocked name_of)

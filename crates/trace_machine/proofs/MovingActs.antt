@@ -1,8 +1,7 @@
 -- Acts that move a thread between a hand and a queue: what they come to, with the name of the thread noted.
-use Rattle.std.proofs.Common.{◌≡◌, ◌≢◌, ℕ, ◌==◌, ◌+◌, ◌≤◌, ◌<◌, Bool, true, false, cond, Contains, List, [], ◌∷◌, Option, Some, None, count_by, is_none, is_some, length, slice_set, refl, sym, ap, ◌∙◌, subst, inl, inr, arith, eq-eqb}
-use Rattle.std.specs.List.{list_any}
-use Rattle.std.proofs.lemmas.Bool.{cases_eq, cond_both, eqb-false, ne_eqb}
-use Rattle.std.proofs.lemmas.Option.{none-some, same_Some}
+use Rattle.std.proofs.Common.{◌≡◌, ◌≢◌, ℕ, ◌<◌, Bool, false, [], ◌∷◌, Some, None, is_none, slice_set, refl, sym, ap, ◌∙◌, subst, inl, inr}
+use Rattle.std.proofs.lemmas.Bool.{cases_eq, eqb-false, ne_eqb}
+use Rattle.std.proofs.lemmas.Option.{same_Some}
 use Rattle.link_arena.specs.Arena.{value_at}
 use Rattle.sched_base.specs.declared.Act.{Act}
 use Rattle.sched_base.specs.declared.Act.TheVariants as acts
@@ -10,27 +9,20 @@ use Rattle.sched_base.specs.declared.Answer.{Answer}
 use Rattle.sched_base.specs.declared.Answer.TheVariants as answers
 use Rattle.sched_base.specs.declared.Facts.{Facts}
 use Rattle.sched_base.specs.declared.Ticket.{Ticket}
-use Rattle.flat_policy.specs.Laws.Counts.{EachNameOnce}
 use Rattle.flat_policy.specs.Policy.Clusters.{NameStands}
-use Rattle.flat_policy.specs.Policy.ClusterSteps.{Event, facts_of, got, named_entry, offer_event, pull_event, select_event}
-use Rattle.flat_policy.specs.Policy.Machine.{Hand, MachineState, Outcome, Sleeper, Yard, count_held, empty_hand, enter_outcome, filled_hand, flat_at, hand_at, hand_empty, hand_full, holds, kept_hand, not_allowed, not_queued, place_count, pull_outcome, refuse, taking, taking_hand}
-use Rattle.flat_policy.specs.Policy.Queue.{Flat, Queued}
-use Rattle.flat_policy.specs.Policy.Setup.{SetupParts, actor_count, cluster_count, home_of}
-use Rattle.trace_machine.specs.Acting.{ActsTo, IsKept, IsSet, KeepsOn, outcome_at}
+use Rattle.flat_policy.specs.Policy.Machine.{Hand, MachineState, Outcome, Yard, empty_hand, enter_outcome, hand_empty, not_allowed}
+use Rattle.flat_policy.specs.Policy.Setup.{SetupParts, cluster_count}
+use Rattle.trace_machine.specs.Acting.{ActsTo, IsSet, KeepsOn}
 use Rattle.trace_machine.specs.declared.names.Standing.{Standing}
 use Rattle.trace_machine.specs.declared.names.Standing.TheVariants as standings
 use Rattle.trace_machine.specs.declared.yard.Resting.{Resting}
 use Rattle.trace_machine.specs.Machines.{MachineView, MeansOver, StandsThere}
 use Rattle.trace_machine.specs.Parts.{Does, IsOtherThread, PartsView, accepted_at, cluster_at, hand_of, state_of}
-use Rattle.trace_machine.specs.Yards.{YardView, sleeper_in, standing_of}
-use Rattle.trace_machine.proofs.ActsTo.{accepted_is, quiet_acts, quiet_from, refused_by}
-use Rattle.trace_machine.proofs.Found.{member_counted}
+use Rattle.trace_machine.specs.Yards.{YardView}
+use Rattle.trace_machine.proofs.ActsTo.{accepted_is, refused_by}
 use Rattle.trace_machine.proofs.Frames.{Frame, names_after, yard_stays}
-use Rattle.trace_machine.proofs.LiveNames.{few_counted, hand_and_yard, made_where_counted}
-use Rattle.trace_machine.proofs.Setting.{hand_changed, hand_other, rehanded}
-use Rattle.trace_machine.proofs.Standing.{KnowsPlaces, flat_is, used_is}
-use Rattle.trace_machine.proofs.StandingFound.{is_queued_at, not_queued_is, queued_is}
-use Rattle.trace_machine.proofs.YardActs.{actor_within, held_apart, known}
+use Rattle.trace_machine.proofs.Setting.{hand_other, rehanded}
+use Rattle.trace_machine.proofs.YardActs.{held_apart, known}
 use Rattle.trace_machine.proofs.YardMoves.{IsNoted, is_name, moved_stands, noted_other, refusal_none}
 
 -- what an accepted act that moves a thread has to show: the hand that changed, and that the thread of that name alone moved
@@ -62,12 +54,12 @@ move_frame old new y a now act told name s m = record {
       elim (cases_eq k a) [
         | inl here ↦ absurd (eqb-false t.name name is (m.held t (ap (λ i. (hand_of old.parts i).thread) (sym here) ∙ holding)))
         | inr other ↦ (
-            t,
-            hand_by old.parts new.parts a m.hand k (hands_after old new y a now act told m.hand m.does m.hands)
-            ∙ ap (λ (h : Hand). h.thread) (hand_other old.parts a m.hand k other)
-            ∙ holding,
-            refl,
-          )
+          t,
+          hand_by old.parts new.parts a m.hand k (hands_after old new y a now act told m.hand m.does m.hands)
+              ∙ ap (λ (h : Hand). h.thread) (hand_other old.parts a m.hand k other)
+              ∙ holding,
+          refl,
+        )
       ];
   slots = λ slot w is there. ap (λ (v : YardView). value_at v.sleepers slot) m.yard ∙ there;
   ended = λ n is there. there;
@@ -104,7 +96,7 @@ pub enter_acts : (old new : MachineView) (y : Yard) (a now c : ℕ) (head : Bool
     → ActsTo old new y a now (acts.Enter c head) (answers.Pri ticket.pri)
 enter_acts old new y a now c head t ticket set means keeps holding below allowed does cluster stands noted yard steps =
     let accepted : accepted_at old.parts y a now (acts.Enter c head) ≡ enter_outcome old.parts.setup (state_of old.parts y) a c head now (Some t) =
-        ap (enter_outcome old.parts.setup (state_of old.parts y) a c head now) holding in
+    ap (enter_outcome old.parts.setup (state_of old.parts y) a c head now) holding in
     move_acts old new y a now (acts.Enter c head) (answers.Pri ticket.pri) t.name (standings.Queued ticket) means
     (record {
       accepted = refusal_none (hand_empty (hand_of old.parts a)) (not_allowed old.parts.setup (hand_of old.parts a).thread c ∷ []) (ap is_none holding)
@@ -117,9 +109,8 @@ enter_acts old new y a now c head t ticket set means keeps holding below allowed
       noted = noted;
       yard = yard;
       steps = steps;
-    })
-    (
-        subst (λ (s : SetupParts). ticket.cluster < cluster_count s) (sym does.keeps_setup) (subst (λ k. k < cluster_count old.parts.setup) (sym cluster) below),
-        subst (λ k. NameStands (cluster_at new.parts k) ticket.slot ticket.arrival t.name) (sym cluster) stands,
+    }) (
+      subst (λ (s : SetupParts). ticket.cluster < cluster_count s) (sym does.keeps_setup) (subst (λ k. k < cluster_count old.parts.setup) (sym cluster) below),
+      subst (λ k. NameStands (cluster_at new.parts k) ticket.slot ticket.arrival t.name) (sym cluster) stands,
     )
     (held_apart old y a t (known old y means keeps) holding)

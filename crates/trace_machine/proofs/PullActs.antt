@@ -1,35 +1,24 @@
 -- A named thread comes out of the home's queue into the hand.
-use Rattle.std.proofs.Common.{◌≡◌, ◌≢◌, ℕ, ◌==◌, ◌+◌, ◌≤◌, ◌<◌, Bool, true, false, cond, Contains, List, [], ◌∷◌, Option, Some, None, count_by, is_none, is_some, length, not, slice_set, refl, sym, ap, ◌∙◌, subst, inl, inr, arith, eq-eqb}
-use Rattle.std.specs.List.{list_any}
-use Rattle.std.proofs.lemmas.Bool.{cond_both, eqb-true, ne_eqb}
-use Rattle.std.proofs.lemmas.Option.{same_Some}
-use Rattle.link_arena.specs.Arena.{value_at}
-use Rattle.sched_base.specs.declared.Act.{Act}
+use Rattle.std.proofs.Common.{◌≡◌, ℕ, ◌==◌, ◌<◌, [], ◌∷◌, Some, None, is_some, not, slice_set, refl, sym, ap, ◌∙◌, subst, eq-eqb}
+use Rattle.std.proofs.lemmas.Bool.{eqb-true}
 use Rattle.sched_base.specs.declared.Act.TheVariants as acts
-use Rattle.sched_base.specs.declared.Answer.{Answer}
 use Rattle.sched_base.specs.declared.Answer.TheVariants as answers
-use Rattle.sched_base.specs.declared.Facts.{Facts}
 use Rattle.sched_base.specs.declared.Ticket.{Ticket}
-use Rattle.flat_policy.specs.Laws.Counts.{EachNameOnce}
-use Rattle.flat_policy.specs.Policy.ClusterSteps.{Event, facts_of, got, named_entry, offer_event, pull_event, select_event, touched}
-use Rattle.flat_policy.specs.Policy.Machine.{Hand, MachineState, Outcome, Refusal, Sleeper, Yard, count_held, filled_hand, flat_at, hand_at, hand_full, holds, kept_hand, not_queued, pull_outcome, refuse, taking, taking_hand}
-use Rattle.flat_policy.specs.Policy.Moves.{pick, selected}
-use Rattle.flat_policy.specs.Policy.Offer.{offered_between}
+use Rattle.flat_policy.specs.Policy.ClusterSteps.{named_entry, pull_event}
+use Rattle.flat_policy.specs.Policy.Machine.{Hand, MachineState, Outcome, Refusal, Yard, filled_hand, flat_at, hand_full, not_queued, pull_outcome, taking}
 use Rattle.flat_policy.specs.Policy.Queue.{Flat, Queued}
-use Rattle.flat_policy.specs.Policy.Setup.{SetupParts, actor_count, cluster_times, home_of}
-use Rattle.trace_machine.specs.Acting.{ActsTo, IsKept, IsSet, KeepsOn, outcome_at}
+use Rattle.flat_policy.specs.Policy.Setup.{SetupParts, actor_count, home_of}
+use Rattle.trace_machine.specs.Acting.{ActsTo, IsSet, KeepsOn}
 use Rattle.trace_machine.specs.declared.names.Standing.TheVariants as standings
-use Rattle.trace_machine.specs.declared.yard.Resting.{Resting}
-use Rattle.trace_machine.specs.Machines.{MachineView, MeansOver, StandsThere}
-use Rattle.trace_machine.specs.Parts.{Does, IsOtherThread, IsQueuedAs, PartsView, accepted_at, cluster_at, hand_of, state_of}
-use Rattle.trace_machine.specs.Yards.{sleeper_in, standing_of}
-use Rattle.trace_machine.proofs.ActsTo.{accepted_is, quiet_acts, quiet_from, refused_by}
-use Rattle.trace_machine.proofs.Found.{found_passes, member_counted}
-use Rattle.trace_machine.proofs.LiveNames.{few_counted, hand_and_yard, made_where_counted}
-use Rattle.trace_machine.proofs.MovingActs.{IsMove, hand_by, hands_after, move_acts}
-use Rattle.trace_machine.proofs.Setting.{hand_changed, rehanded}
-use Rattle.trace_machine.proofs.Standing.{KnowsPlaces, flat_is, used_is}
-use Rattle.trace_machine.proofs.StandingFound.{is_queued_at, not_queued_is, queued_is}
+use Rattle.trace_machine.specs.Machines.{MachineView, MeansOver}
+use Rattle.trace_machine.specs.Parts.{Does, IsOtherThread, IsQueuedAs, accepted_at, cluster_at, hand_of, state_of}
+use Rattle.trace_machine.specs.Yards.{is_queued_at, standing_of}
+use Rattle.trace_machine.proofs.ActsTo.{refused_by}
+use Rattle.trace_machine.proofs.Found.{found_passes}
+use Rattle.trace_machine.proofs.MovingActs.{hand_by, hands_after, move_acts}
+use Rattle.trace_machine.proofs.Setting.{flat_here, hand_changed}
+use Rattle.trace_machine.proofs.Standing.{KnowsPlaces}
+use Rattle.trace_machine.proofs.StandingFound.{not_queued_is, queued_is}
 use Rattle.trace_machine.proofs.YardActs.{actor_within, known}
 use Rattle.trace_machine.proofs.YardMoves.{IsNoted, apart_from_sleepers, refusal_none}
 
@@ -64,11 +53,11 @@ pull_acts old new y a now name ticket set means keeps empty stands here does not
     let g : MachineState = state_of old.parts y in
     let queued = queued_at_home old y a name ticket k stands here in
     let e : Queued = queued.0 in
-    let found : named_entry (flat_at g home) name ≡ Some e = ap (λ (s : Flat). named_entry s name) (flat_is old.parts y home) ∙ queued.2 in
+    let found : named_entry (flat_at g home) name ≡ Some e = ap (λ (s : Flat). named_entry s name) (flat_here old.parts y home) ∙ queued.2 in
     let named : e.facts.name ≡ name =
-        eqb-true e.facts.name name (found_passes (λ (q : Queued). q.facts.name == name) (cluster_at old.parts home).flat.entries e queued.2) in
+    eqb-true e.facts.name name (found_passes (λ (q : Queued). q.facts.name == name) (cluster_at old.parts home).flat.entries e queued.2) in
     let comes : accepted_at old.parts y a now (acts.Pull name) ≡ taking old.parts.setup g a (hand_of old.parts a) home now (pull_event e now (flat_at g home)) =
-        ap (pull_outcome old.parts.setup g a (hand_of old.parts a) home now) found in
+    ap (pull_outcome old.parts.setup g a (hand_of old.parts a) home now) found in
     let hand : Hand = filled_hand old.parts.setup e.facts now in
     let hands : (accepted_at old.parts y a now (acts.Pull name)).state.hands ≡ slice_set old.parts.hands a hand = ap (λ (o : Outcome). o.state.hands) comes in
     move_acts old new y a now (acts.Pull name) answers.Yes name (standings.Held a) means
@@ -82,14 +71,13 @@ pull_acts old new y a now name ticket set means keeps empty stands here does not
       noted = noted;
       yard = yard;
       steps = steps;
-    })
-    (
-        subst (λ (s : SetupParts). a < actor_count s) (sym does.keeps_setup) set.ready.actor,
-        (
-            e.facts,
-            hand_by old.parts new.parts a hand a (hands_after old new y a now (acts.Pull name) answers.Yes hand does hands)
+    }) (
+      subst (λ (s : SetupParts). a < actor_count s) (sym does.keeps_setup) set.ready.actor,
+      (
+        e.facts,
+        hand_by old.parts new.parts a hand a (hands_after old new y a now (acts.Pull name) answers.Yes hand does hands)
             ∙ ap (λ (h : Hand). h.thread) (hand_changed old.parts a hand (actor_within old a now (acts.Pull name) set)),
-            named,
-        ),
+        named,
+      ),
     )
     (apart_from_sleepers old y name means.yard (λ slot is. let f = sym stands ∙ is in cc))

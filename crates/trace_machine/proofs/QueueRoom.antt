@@ -1,5 +1,5 @@
 -- Before a held thread enters a queue it has room.
-use Rattle.std.proofs.Common.{◌≡◌, ℕ, ◌==◌, ◌+◌, ◌≤◌, ◌<◌, cond, List, [], ◌∷◌, ◌++◌, Option, Some, count_by, length, map, sum_by, refl, sym, ap, ◌∙◌, inl, inr, arith}
+use Rattle.std.proofs.Common.{◌≡◌, ℕ, ◌==◌, ◌+◌, ◌≤◌, ◌<◌, cond, List, [], ◌∷◌, ◌++◌, Option, Some, count_by, length, map, refl, ap, inl, inr, arith}
 use Rattle.std.proofs.lemmas.Bool.{cases_lt}
 use Rattle.std.proofs.lemmas.List.{get_or_past, length-append, length-map}
 use Rattle.std.proofs.lemmas.List.Sums.{get_or-le-sum_by, sum_by-append, sum_by-cons}
@@ -10,8 +10,9 @@ use Rattle.flat_policy.specs.Policy.Queue.{Flat, Queued, empty_flat}
 use Rattle.trace_machine.specs.Acting.{IsKept}
 use Rattle.trace_machine.specs.Machines.{MachineView}
 use Rattle.trace_machine.specs.Parts.{cluster_at, hand_of, state_of}
-use Rattle.trace_machine.proofs.LiveNames.{count_away, few_counted, hand_and_yard, made_where_counted, name_of, names_away, no_more}
-use Rattle.trace_machine.proofs.Standing.{flat_is}
+use Rattle.trace_machine.proofs.LiveNames.{count_away, hand_and_yard, made_where_counted, name_of, names_away, no_more}
+use Rattle.trace_machine.proofs.Setting.{flat_here}
+use Rattle.trace_machine.proofs.Standing.{counted_once}
 
 abbrev name_in : Queued → ℕ
 name_in e = e.facts.name
@@ -55,7 +56,7 @@ queued_within g c a t once holding =
       ap {B = ℕ} (λ (o : Option Facts). cond (holds q o) 1 0) holding,
     ) in
     let few = no_more (t.name ∷ ns) y.made
-    (λ q. omega (arith, counts q, few_counted g q once))
+    (λ q. omega (arith, counts q, counted_once g q once))
     (λ q some. made_where_counted g q once (omega (arith, some, counts q))) in
     omega (arith, few, length-append (map name_in es) (names_away y), length-map es name_in, length-append (map name_of y.blocked) y.ended)
 
@@ -67,5 +68,5 @@ room_to_enter v y a c t kept holding =
       arith,
       queued_within (state_of v.parts y) c a t kept.once holding,
       kept.within.live,
-      ap (λ (s : Flat). length s.entries) (flat_is v.parts y c),
+      ap (λ (s : Flat). length s.entries) (flat_here v.parts y c),
     )

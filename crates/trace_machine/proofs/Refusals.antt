@@ -1,5 +1,5 @@
 -- Refusals of acts that would move a thread, by what a machine in code tests.
-use Rattle.std.proofs.Common.{◌≡◌, ◌≢◌, ℕ, ◌==◌, ◌-◌, ◌≤◌, Bool, true, false, not, List, [], ◌∷◌, Option, Some, None, is_none, is_some, length, nat_le, refl, sym, ap, ◌∙◌, arith, eq-eqb}
+use Rattle.std.proofs.Common.{◌≡◌, ◌≢◌, ℕ, ◌==◌, ◌-◌, ◌≤◌, Bool, true, false, not, List, [], ◌∷◌, Option, Some, None, is_none, is_some, length, refl, sym, ap, ◌∙◌, arith, eq-eqb}
 use Rattle.std.proofs.lemmas.Bool.{cond-false, cond-true, false≢true, le-leb, ne_eqb}
 use Rattle.sched_base.specs.declared.Act.TheVariants as acts
 use Rattle.sched_base.specs.declared.Answer.{Answer}
@@ -13,11 +13,10 @@ use Rattle.trace_machine.specs.declared.names.Standing.{Standing}
 use Rattle.trace_machine.specs.declared.names.Standing.TheVariants as standings
 use Rattle.trace_machine.specs.Machines.{MachineView}
 use Rattle.trace_machine.specs.Parts.{hand_of, state_of}
-use Rattle.trace_machine.specs.Yards.{place_in, standing_of}
+use Rattle.trace_machine.specs.Yards.{is_queued_at, place_in, standing_of}
 use Rattle.trace_machine.proofs.ActsTo.{refused_by}
 use Rattle.trace_machine.proofs.Standing.{KnowsPlaces, used_is}
-use Rattle.trace_machine.proofs.StandingFound.{is_queued_at, is_resting, not_blocked_is, not_queued_is}
-use Rattle.trace_machine.proofs.YardMoves.{refusal_none}
+use Rattle.trace_machine.proofs.StandingFound.{is_resting, not_blocked_is, not_queued_is}
 
 -- a refusal that holds comes, and one that doesn't leaves it to the next
 pub refusal_comes : (r : Refusal) (rs : List Refusal) → r.holds ≡ true → first_refusal (r ∷ rs) ≡ Some r.answer
@@ -108,7 +107,7 @@ pull_elsewhere v y a name st k empty stands other =
     let home : ℕ = home_of v.parts.setup a in
     let refusing : Refusal = not_queued (state_of v.parts y) (flat_at (state_of v.parts y) home) name in
     let is : refusing ≡ refuse (not (is_queued_at home st)) (answers.NotQueued (place_in st)) =
-        not_queued_is v y k name home ∙ ap (λ o. refuse (not (is_queued_at home o)) (answers.NotQueued (place_in o))) stands in
+    not_queued_is v y k name home ∙ ap (λ o. refuse (not (is_queued_at home o)) (answers.NotQueued (place_in o))) stands in
     refusal_later (hand_full (hand_of v.parts a)) (refusing ∷ []) (Some (answers.NotQueued (place_in st))) empty
     (refusal_comes refusing [] (ap (λ (r : Refusal). r.holds) is ∙ ap not other) ∙ ap (λ (r : Refusal). Some r.answer) is)
 
@@ -119,7 +118,7 @@ pub wake_elsewhere : (v : MachineView) (y : Yard) (a name : ℕ) (st : Option St
 wake_elsewhere v y a name st k empty stands other =
     let refusing : Refusal = not_blocked (state_of v.parts y) name in
     let is : refusing ≡ refuse (not (is_resting st)) (answers.NotBlocked (place_in st)) =
-        not_blocked_is v y k name ∙ ap (λ o. refuse (not (is_resting o)) (answers.NotBlocked (place_in o))) stands in
+    not_blocked_is v y k name ∙ ap (λ o. refuse (not (is_resting o)) (answers.NotBlocked (place_in o))) stands in
     refusal_later (hand_full (hand_of v.parts a)) (refusing ∷ []) (Some (answers.NotBlocked (place_in st))) empty
     (refusal_comes refusing [] (ap (λ (r : Refusal). r.holds) is ∙ ap not other) ∙ ap (λ (r : Refusal). Some r.answer) is)
 

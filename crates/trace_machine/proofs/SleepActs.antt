@@ -1,7 +1,6 @@
 -- A thread goes to sleep, wakes, and the blocked ones are counted.
-use Rattle.std.proofs.Common.{◌≡◌, ◌≢◌, ℕ, ◌==◌, ◌+◌, ◌-◌, ◌≤◌, ◌<◌, Bool, true, false, not, cond, Contains, List, [], ◌∷◌, ◌++◌, Option, Some, None, count_by, is_none, is_some, length, refl, sym, ap, ◌∙◌, subst, inl, inr, arith, eq-eqb}
-use Rattle.std.specs.List.{list_any}
-use Rattle.std.proofs.lemmas.Bool.{cases_eq, false≢true, ne_eqb, not_from_false, not_from_true}
+use Rattle.std.proofs.Common.{◌≡◌, ◌≢◌, ℕ, ◌==◌, ◌+◌, ◌-◌, Bool, false, not, Contains, [], ◌∷◌, ◌++◌, Some, None, count_by, is_none, is_some, refl, sym, ap, ◌∙◌, subst, inl, inr, arith, eq-eqb}
+use Rattle.std.proofs.lemmas.Bool.{cases_eq, false≢true, ne_eqb}
 use Rattle.std.proofs.lemmas.List.{length_push}
 use Rattle.std.proofs.lemmas.List.Elements.{Contains-append_left, Contains-push}
 use Rattle.std.proofs.lemmas.Option.{none-some, same_Some}
@@ -11,8 +10,8 @@ use Rattle.sched_base.specs.declared.Act.TheVariants as acts
 use Rattle.sched_base.specs.declared.Answer.TheVariants as answers
 use Rattle.sched_base.specs.declared.Facts.{Facts}
 use Rattle.sched_base.specs.declared.Place.TheVariants as places
-use Rattle.flat_policy.specs.Policy.Machine.{Hand, Outcome, Sleeper, Yard, empty_hand, filled_hand, hand_empty, hand_full, kept_hand, not_blocked, sleep_outcome, sleeper_of, sleepers_without, wake_outcome, wake_outcome_by, with_hand, with_yard}
-use Rattle.flat_policy.specs.Policy.Setup.{SetupParts, actor_count}
+use Rattle.flat_policy.specs.Policy.Machine.{Hand, Outcome, Sleeper, Yard, empty_hand, filled_hand, hand_empty, hand_full, kept_hand, not_blocked, sleep_outcome, sleepers_without, wake_outcome, wake_outcome_by, with_hand, with_yard}
+use Rattle.flat_policy.specs.Policy.Setup.{SetupParts}
 use Rattle.trace_machine.specs.Acting.{ActsTo, IsSet, KeepsOn}
 use Rattle.trace_machine.specs.declared.names.Standing.TheVariants as standings
 use Rattle.trace_machine.specs.declared.yard.Resting.{Resting}
@@ -25,9 +24,9 @@ use Rattle.trace_machine.proofs.Setting.{rehanded, serves_longer}
 use Rattle.trace_machine.proofs.Frames.{names_after}
 use Rattle.flat_policy.specs.Policy.Clusters.{NameStands}
 use Rattle.trace_machine.proofs.Standing.{KnowsPlaces, counted_once, within_all}
-use Rattle.trace_machine.proofs.StandingFound.{blocked_is, held_is, is_resting, sleeper_is}
+use Rattle.trace_machine.proofs.StandingFound.{blocked_is, is_resting, sleeper_is}
 use Rattle.trace_machine.proofs.YardActs.{actor_within, held_apart, known, stands_held}
-use Rattle.trace_machine.proofs.YardMoves.{IsNoted, YardMove, noted_here, noted_other, refusal_none, same_sleepers, yard_acts}
+use Rattle.trace_machine.proofs.YardMoves.{IsNoted, noted_here, noted_other, refusal_none, same_sleepers, yard_acts}
 
 -- what the yard in code shows of a thread that went to sleep
 pub record FallsAsleep (old new : MachineView) (t : Facts) (slot now : ℕ) : Type 0 where

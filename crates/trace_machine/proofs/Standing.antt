@@ -1,30 +1,26 @@
 -- Where names stand in a machine in code, and what the policy says of them.
-use Rattle.std.proofs.Common.{◌≡◌, ◌≢◌, ℕ, ◌==◌, ◌&&◌, ◌+◌, ◌≤◌, ◌<◌, Bool, true, false, not, cond, Contains, List, [], ◌∷◌, Option, Some, None, count_by, find, is_none, is_some, length, map, sum_by, unwrap_or, refl, sym, ap, ◌∙◌, subst, inl, inr, arith, eq-eqb}
+use Rattle.std.proofs.Common.{◌≡◌, ℕ, ◌==◌, ◌&&◌, ◌+◌, ◌≤◌, Bool, false, cond, Contains, List, [], ◌∷◌, Option, Some, None, count_by, is_some, length, sum_by, unwrap_or, refl, sym, ap, ◌∙◌, subst, inl, inr, arith, eq-eqb}
 use Rattle.std.specs.List.{list_any}
-use Rattle.std.proofs.Math.ListN.{get_or-map}
-use Rattle.std.proofs.lemmas.Bool.{cases_Bool, cases_lt, cond-false, cond-true, false≢true, ne_eqb}
+use Rattle.std.proofs.lemmas.Bool.{cases_Bool, cases_lt, cond-false, cond-true}
 use Rattle.std.proofs.lemmas.List.{get_or_past}
 use Rattle.std.proofs.lemmas.List.Sums.{get_or-le-sum_by, sum_by-cons}
-use Rattle.link_arena.specs.Arena.{value_at}
-use Rattle.sched_base.specs.declared.Answer.TheVariants as answers
-use Rattle.sched_base.specs.declared.Entry.{Entry}
 use Rattle.sched_base.specs.declared.Facts.{Facts}
 use Rattle.sched_base.specs.declared.Place.{Place}
 use Rattle.sched_base.specs.declared.Place.TheVariants as places
-use Rattle.sched_base.specs.declared.Ticket.{Ticket}
 use Rattle.flat_policy.specs.Laws.Counts.{EachNameOnce, RunsKeepCounts}
 use Rattle.flat_policy.specs.Laws.Places.{PlaceIsWhereItStands}
-use Rattle.flat_policy.specs.Policy.Clusters.{ClusterView, NameStands, standing, standing_among}
+use Rattle.flat_policy.specs.Policy.Clusters.{standing_among}
 use Rattle.flat_policy.specs.Policy.ClusterSteps.{named_entry}
-use Rattle.flat_policy.specs.Policy.Machine.{Hand, MachineState, Sleeper, Yard, count_at, count_held, count_queued, expected_count, flat_at, hand_at, held_by, holds, in_yard, is_blocked, no_hand, not_blocked, not_queued, place_count, place_of, queued_in, refuse, sleeper_of}
+use Rattle.flat_policy.specs.Policy.Machine.{Hand, MachineState, Sleeper, Yard, count_at, count_held, count_queued, held_by, holds, in_yard, is_blocked, no_hand, place_count, place_of, queued_in}
 use Rattle.flat_policy.specs.Policy.Queue.{Flat, Queued, empty_flat}
 use Rattle.trace_machine.specs.declared.names.Standing.{Standing}
 use Rattle.trace_machine.specs.declared.names.Standing.TheVariants as standings
 use Rattle.trace_machine.specs.declared.yard.Resting.{Resting}
 use Rattle.trace_machine.specs.Machines.{HasYard, MachineView, MeansOver, StandsThere}
-use Rattle.trace_machine.specs.Parts.{IsQueuedAs, PartsView, cluster_at, hand_of, no_cluster, state_of}
+use Rattle.trace_machine.specs.Parts.{cluster_at, state_of}
 use Rattle.trace_machine.specs.Yards.{place_in, sleeper_in, standing_of}
-use Rattle.trace_machine.proofs.Found.{any_from_counted, contains_here, contains_later, counted_from_any, found_alone, found_is_any, found_none, member_counted, none_from_uncounted}
+use Rattle.trace_machine.proofs.Found.{contains_here, contains_later, counted_from_any, found_none, member_counted, none_from_uncounted}
+use Rattle.trace_machine.proofs.Setting.{flat_here}
 
 -- what is known of a machine's names: its yard, where each name stands, that each is in one place, and that this is the place that is told
 pub record KnowsPlaces (v : MachineView) (y : Yard) : Type 0 where
@@ -41,10 +37,6 @@ knows_places v y m counts law = record {
   once = counts v.parts.setup m.history.0 (state_of v.parts y) m.history.1;
   law = law;
 }
-
--- the queue of a cluster in code
-pub flat_is : (p : PartsView) (y : Yard) (c : ℕ) → flat_at (state_of p y) c ≡ (cluster_at p c).flat
-flat_is p y c = get_or-map (λ (v : ClusterView). v.flat) p.clusters c (no_cluster p.setup)
 
 -- an entry that stands in a slot is one of the entries
 pub standing_member : (slot arrival : ℕ) (es : List Queued) (slots : List ℕ) (e : Queued) → standing_among slot arrival es slots ≡ Some e → Contains es e
@@ -63,7 +55,7 @@ stands_counted : (v : MachineView) (y : Yard) (name : ℕ) (s : Standing) → Ha
 stands_counted v y name (standings.Queued t) yard there =
     let e : Queued = there.1.0 in
     let c = standing_member t.slot t.arrival (cluster_at v.parts t.cluster).flat.entries (cluster_at v.parts t.cluster).slots e there.1.1 in
-    subst (λ (s : Flat). 1 ≤ count_queued name s) (sym (flat_is v.parts y t.cluster))
+    subst (λ (s : Flat). 1 ≤ count_queued name s) (sym (flat_here v.parts y t.cluster))
     (member_counted (λ (q : Queued). q.facts.name == name) (cluster_at v.parts t.cluster).flat.entries e c (eq-eqb e.facts.name name there.1.2))
 stands_counted v y name (standings.Held a) yard there =
     let t : Facts = there.1.0 in

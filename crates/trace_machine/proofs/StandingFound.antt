@@ -1,5 +1,5 @@
 -- What the policy finds by a name: its entry, its hand, its sleeper, and the refusals of a pull and a wake.
-use Rattle.std.proofs.Common.{◌≡◌, ◌≢◌, ℕ, ◌==◌, ◌≤◌, Bool, true, false, not, cond, Option, Some, None, count_by, is_none, is_some, refl, sym, ap, ◌∙◌, subst, inl, inr, arith, eq-eqb}
+use Rattle.std.proofs.Common.{◌≡◌, ◌≢◌, ℕ, ◌==◌, ◌≤◌, Bool, true, false, not, cond, Option, Some, None, is_none, refl, sym, ap, ◌∙◌, subst, inl, inr, arith, eq-eqb}
 use Rattle.std.proofs.lemmas.Bool.{cases_eq, ne_eqb}
 use Rattle.link_arena.specs.Arena.{value_at}
 use Rattle.sched_base.specs.declared.Answer.TheVariants as answers
@@ -7,16 +7,17 @@ use Rattle.sched_base.specs.declared.Facts.{Facts}
 use Rattle.sched_base.specs.declared.Place.TheVariants as places
 use Rattle.sched_base.specs.declared.Ticket.{Ticket}
 use Rattle.flat_policy.specs.Policy.ClusterSteps.{named_entry}
-use Rattle.flat_policy.specs.Policy.Machine.{Refusal, Sleeper, Yard, count_queued, flat_at, holds, is_blocked, not_blocked, not_queued, place_of, refuse, sleeper_of}
+use Rattle.flat_policy.specs.Policy.Machine.{Sleeper, Yard, count_queued, flat_at, holds, is_blocked, not_blocked, not_queued, refuse, sleeper_of}
 use Rattle.flat_policy.specs.Policy.Queue.{Flat, Queued}
 use Rattle.trace_machine.specs.declared.names.Standing.{Standing}
 use Rattle.trace_machine.specs.declared.names.Standing.TheVariants as standings
 use Rattle.trace_machine.specs.declared.yard.Resting.{Resting}
 use Rattle.trace_machine.specs.Machines.{MachineView, StandsThere}
 use Rattle.trace_machine.specs.Parts.{IsQueuedAs, cluster_at, hand_of, state_of}
-use Rattle.trace_machine.specs.Yards.{place_in, sleeper_in, standing_of}
+use Rattle.trace_machine.specs.Yards.{is_queued_at, place_in, sleeper_in, standing_of}
 use Rattle.trace_machine.proofs.Found.{any_from_counted, counted, found_alone, found_none, member_counted}
-use Rattle.trace_machine.proofs.Standing.{KnowsPlaces, counted_once, flat_is, place_is, standing_member, within_all}
+use Rattle.trace_machine.proofs.Setting.{flat_here}
+use Rattle.trace_machine.proofs.Standing.{KnowsPlaces, counted_once, place_is, standing_member, within_all}
 
 -- the standing that a place is of
 in_queue : (st : Option Standing) (c : ℕ) → place_in st ≡ places.Queue c → (t : Ticket) × (st ≡ Some (standings.Queued t)) × (t.cluster ≡ c)
@@ -32,14 +33,6 @@ in_hand (Some (standings.Queued t)) a e = absurd (cc)
 in_hand (Some (standings.Held b)) a e = (let same : b ≡ a = cc in ap (λ n. Some (standings.Held n)) same)
 in_hand (Some (standings.Blocked slot)) a e = absurd (cc)
 in_hand (Some standings.Ended) a e = absurd (cc)
-
--- whether a standing is one in the queue of a cluster
-abbrev pub is_queued_at : ℕ → Option Standing → Bool
-is_queued_at c None = false
-is_queued_at c (Some (standings.Queued t)) = t.cluster == c
-is_queued_at c (Some (standings.Held a)) = false
-is_queued_at c (Some (standings.Blocked slot)) = false
-is_queued_at c (Some standings.Ended) = false
 
 -- whether a standing is one in the yard
 abbrev pub is_resting : Option Standing → Bool
@@ -60,7 +53,7 @@ queued_is v y k name t is =
       arith,
       within_all (state_of v.parts y) (places.Queue t.cluster) name,
       counted_once (state_of v.parts y) name k.once,
-      ap (count_queued name) (flat_is v.parts y t.cluster),
+      ap (count_queued name) (flat_here v.parts y t.cluster),
     ) in (
       e,
       there.1.1,
@@ -84,7 +77,7 @@ unqueued_is v y k name c None is = ap is_none (not_queued_is_none v y k name c (
 unqueued_is v y k name c (Some (standings.Queued t)) is =
     elim (cases_eq t.cluster c) [
       | inl here ↦ (let q = queued_is v y k name t is in
-          ap is_none (ap (λ (s : Flat). named_entry s name) (ap (flat_at (state_of v.parts y)) (sym here) ∙ flat_is v.parts y t.cluster) ∙ q.2) ∙ sym (ap not (eq-eqb t.cluster c here)))
+          ap is_none (ap (λ (s : Flat). named_entry s name) (ap (flat_at (state_of v.parts y)) (sym here) ∙ flat_here v.parts y t.cluster) ∙ q.2) ∙ sym (ap not (eq-eqb t.cluster c here)))
       | inr other ↦ ap is_none (not_queued_is_none v y k name c (λ e. let f = sym (ap place_in is) ∙ e in other (cc))) ∙ sym (ap not (ne_eqb t.cluster c other))
     ]
 unqueued_is v y k name c (Some (standings.Held a)) is = ap is_none (not_queued_is_none v y k name c (λ e. let f = sym (ap place_in is) ∙ e in cc))

@@ -1,7 +1,7 @@
 -- Acts that take a thread out of a queue into an empty hand.
-use Rattle.std.proofs.Common.{◌≡◌, ◌≢◌, ℕ, ◌==◌, ◌+◌, ◌≤◌, ◌<◌, Bool, true, false, cond, Contains, List, [], ◌∷◌, Option, Some, None, count_by, is_none, is_some, length, not, slice_set, refl, sym, ap, ◌∙◌, subst, inl, inr, arith, eq-eqb}
+use Rattle.std.proofs.Common.{◌≡◌, ◌≢◌, ℕ, ◌==◌, ◌≤◌, ◌<◌, true, cond, [], ◌∷◌, Option, Some, None, is_some, slice_set, refl, sym, ap, ◌∙◌, subst, arith, eq-eqb}
 use Rattle.std.specs.List.{list_any}
-use Rattle.std.proofs.lemmas.Bool.{cond_both, eqb-true, ne_eqb}
+use Rattle.std.proofs.lemmas.Bool.{cond_both, ne_eqb}
 use Rattle.std.proofs.lemmas.Option.{same_Some}
 use Rattle.link_arena.specs.Arena.{value_at}
 use Rattle.sched_base.specs.declared.Act.{Act}
@@ -9,29 +9,27 @@ use Rattle.sched_base.specs.declared.Act.TheVariants as acts
 use Rattle.sched_base.specs.declared.Answer.{Answer}
 use Rattle.sched_base.specs.declared.Answer.TheVariants as answers
 use Rattle.sched_base.specs.declared.Facts.{Facts}
-use Rattle.sched_base.specs.declared.Ticket.{Ticket}
 use Rattle.flat_policy.specs.Laws.Counts.{EachNameOnce}
-use Rattle.flat_policy.specs.Policy.ClusterSteps.{Event, facts_of, got, named_entry, offer_event, pull_event, select_event, touched}
-use Rattle.flat_policy.specs.Policy.Machine.{Hand, MachineState, Outcome, Refusal, Sleeper, Yard, count_held, filled_hand, flat_at, hand_at, hand_full, holds, kept_hand, not_queued, pull_outcome, refuse, taking, taking_hand}
+use Rattle.flat_policy.specs.Policy.ClusterSteps.{Event, facts_of, got, offer_event, select_event, touched}
+use Rattle.flat_policy.specs.Policy.Machine.{Hand, MachineState, Outcome, Sleeper, Yard, count_held, filled_hand, flat_at, hand_at, hand_full, holds, kept_hand, refuse, taking, taking_hand}
 use Rattle.flat_policy.specs.Policy.Moves.{pick, selected}
 use Rattle.flat_policy.specs.Policy.Offer.{offered_between}
 use Rattle.flat_policy.specs.Policy.Queue.{Flat, Queued}
 use Rattle.flat_policy.specs.Policy.Setup.{SetupParts, actor_count, cluster_times, home_of}
-use Rattle.trace_machine.specs.Acting.{ActsTo, IsKept, IsSet, KeepsOn, outcome_at}
+use Rattle.trace_machine.specs.Acting.{ActsTo, IsSet, KeepsOn}
 use Rattle.trace_machine.specs.declared.names.Standing.TheVariants as standings
 use Rattle.trace_machine.specs.declared.yard.Resting.{Resting}
-use Rattle.trace_machine.specs.Machines.{MachineView, MeansOver, StandsThere}
-use Rattle.trace_machine.specs.Parts.{Does, IsOtherThread, IsQueuedAs, PartsView, accepted_at, cluster_at, hand_of, state_of}
+use Rattle.trace_machine.specs.Machines.{MachineView, MeansOver}
+use Rattle.trace_machine.specs.Parts.{Does, IsOtherThread, PartsView, accepted_at, hand_of, state_of}
 use Rattle.trace_machine.specs.Yards.{sleeper_in, standing_of}
 use Rattle.trace_machine.proofs.ActsTo.{accepted_is, quiet_acts, quiet_from, refused_by}
-use Rattle.trace_machine.proofs.Found.{found_passes, member_counted}
-use Rattle.trace_machine.proofs.LiveNames.{few_counted, hand_and_yard, made_where_counted}
-use Rattle.trace_machine.proofs.MovingActs.{IsMove, hand_by, hands_after, move_acts}
-use Rattle.trace_machine.proofs.Setting.{hand_changed, rehanded}
-use Rattle.trace_machine.proofs.Standing.{KnowsPlaces, flat_is, used_is}
-use Rattle.trace_machine.proofs.StandingFound.{is_queued_at, not_queued_is, queued_is}
+use Rattle.trace_machine.proofs.Found.{member_counted}
+use Rattle.trace_machine.proofs.LiveNames.{hand_and_yard, made_where_counted}
+use Rattle.trace_machine.proofs.MovingActs.{hand_by, move_acts}
+use Rattle.trace_machine.proofs.Setting.{hand_changed}
+use Rattle.trace_machine.proofs.Standing.{counted_once, used_is}
 use Rattle.trace_machine.proofs.YardActs.{actor_within, known}
-use Rattle.trace_machine.proofs.YardMoves.{IsNoted, apart_from_sleepers, refusal_none}
+use Rattle.trace_machine.proofs.YardMoves.{IsNoted, refusal_none}
 
 -- an event that tells the name of the thread that it takes, and of none where it takes none
 pub record Tells (e : Event) : Type 0 where
@@ -82,9 +80,9 @@ taken_hand : (old : MachineView) (new : PartsView) (y : Yard) (a now : ℕ) (act
 taken_hand old new y a now act told m t is =
     let hand : Hand = filled_hand old.parts.setup t now in
     let hands : new.hands ≡ slice_set old.parts.hands a hand =
-        sym (ap (λ (g : MachineState). g.hands) (m.does.leads y))
-        ∙ ap (λ (o : Outcome). o.state.hands) m.comes
-        ∙ ap (λ o. slice_set old.parts.hands a (taking_hand old.parts.setup (hand_of old.parts a) o now)) is in
+    sym (ap (λ (g : MachineState). g.hands) (m.does.leads y))
+    ∙ ap (λ (o : Outcome). o.state.hands) m.comes
+    ∙ ap (λ o. slice_set old.parts.hands a (taking_hand old.parts.setup (hand_of old.parts a) o now)) is in
     hand_by old.parts new a hand a hands ∙ ap (λ (h : Hand). h.thread) (hand_changed old.parts a hand (actor_within old a now act m.set))
 
 -- after it each name stands once
@@ -125,11 +123,11 @@ taken_apart : (old : MachineView) (new : PartsView) (y : Yard) (a now : ℕ) (ac
     → m.event.thread ≡ Some t → (slot : ℕ) (w : Resting) → value_at old.yard.sleepers slot ≡ Some w → w.thread.name ≢ t.name
 taken_apart old new y a now act told m t means keeps is slot w there same =
     omega (
-        arith,
-        held_counts new y a t (taken_hand old new y a now act told m t is),
-        hand_and_yard (state_of new y) a t.name,
-        few_counted (state_of new y) t.name (once_after old new y a now act told m means keeps),
-        member_counted (λ (s : Sleeper). s.facts.name == t.name) y.blocked (sleeper_in w) (means.yard.blocked slot w there) (eq-eqb w.thread.name t.name same),
+      arith,
+      held_counts new y a t (taken_hand old new y a now act told m t is),
+      hand_and_yard (state_of new y) a t.name,
+      counted_once (state_of new y) t.name (once_after old new y a now act told m means keeps),
+      member_counted (λ (s : Sleeper). s.facts.name == t.name) y.blocked (sleeper_in w) (means.yard.blocked slot w there) (eq-eqb w.thread.name t.name same),
     )
 
 -- what it comes to where a thread is taken, and where none is
@@ -148,10 +146,9 @@ taken_some old new y a now act told m t means keeps notes yard steps is =
       noted = notes.held t.name got_it;
       yard = yard;
       steps = steps;
-    })
-    (
-        subst (λ (s : SetupParts). a < actor_count s) (sym m.does.keeps_setup) m.set.ready.actor,
-        (t, taken_hand old new.parts y a now act told m t is, refl),
+    }) (
+      subst (λ (s : SetupParts). a < actor_count s) (sym m.does.keeps_setup) m.set.ready.actor,
+      (t, taken_hand old new.parts y a now act told m t is, refl),
     )
     (taken_apart old new.parts y a now act told m t means keeps is)
 

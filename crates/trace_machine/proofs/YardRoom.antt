@@ -1,5 +1,5 @@
 -- The room and the numbers that the yard needs before a step: they follow from what the policy's laws keep.
-use Rattle.std.proofs.Common.{◌≡◌, ℕ, ◌+◌, ◌-◌, ◌≤◌, ◌<◌, ◌^◌, Option, Some, length, arith}
+use Rattle.std.proofs.Common.{◌≡◌, ℕ, ◌<◌, ◌^◌, Some, arith}
 use Rattle.link_arena.specs.Arena.{live_count}
 use Rattle.sched_base.specs.declared.Facts.{Facts}
 use Rattle.flat_policy.specs.Policy.BuiltSetups.{IsSetup}

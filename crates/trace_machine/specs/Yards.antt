@@ -1,5 +1,5 @@
 -- The yard of a machine in code: blocked threads in slots, the number of live threads, and where each name stands.
-use Rattle.std.specs.Prelude.{List, None, Option, Some, ℕ}
+use Rattle.std.specs.Prelude.{Bool, List, None, Option, Some, false, ℕ, ◌==◌}
 use Rattle.std.specs.BTreeMap.{is_at}
 use Rattle.std.specs.Map.{lookup}
 use Rattle.std.specs.Ordering.{nat_cmp}
@@ -32,3 +32,11 @@ place_in (Some (standings.Queued t)) = places.Queue t.cluster
 place_in (Some (standings.Held a)) = places.Hand a
 place_in (Some (standings.Blocked slot)) = places.Blocked
 place_in (Some standings.Ended) = places.Ended
+
+-- whether a standing is one in the queue of a cluster
+abbrev pub is_queued_at : ℕ → Option Standing → Bool
+is_queued_at c None = false
+is_queued_at c (Some (standings.Queued t)) = t.cluster == c
+is_queued_at c (Some (standings.Held a)) = false
+is_queued_at c (Some (standings.Blocked slot)) = false
+is_queued_at c (Some standings.Ended) = false

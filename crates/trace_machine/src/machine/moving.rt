@@ -1,13 +1,37 @@
 //! Acts that move a thread between a hand and a queue.
 
-ghost use Rattle.std.specs.Prelude.{◌≡◌};
+ghost use Rattle.std.specs.Prelude.{◌≡◌, ◌≢◌, ◌==◌, IfNone, IfSome, IsSome, Some, false, if◌then◌else◌, ℕ};
 ghost use Rattle.sched_base.specs.declared.Act.TheVariants as acts;
+ghost use Rattle.sched_base.specs.declared.Answer.TheVariants as answers;
 ghost use Rattle.trace_machine.specs.Acting.{Acts, IsSet};
+ghost use Rattle.trace_machine.specs.Yards.{is_queued_at, standing_of};
+ghost use Rattle.trace_machine.specs.declared.names.Standing.TheVariants as standings;
 
 use super::{Machine, place_at};
 use crate::names::Standing;
 use flat_policy::cluster::Cluster;
-use sched_base::Answer;
+use sched_base::{Answer, Ticket};
+
+/// The ticket of a standing in the queue of a cluster.
+fn ticket_at(standing: Option<Standing>, c: u8) -> Option<Ticket>
+    ensures queued { IfSome result (λ ticket. standing ≡ Some (standings.Queued ticket)) }
+    ensures here { IfSome result (λ ticket. ticket.cluster ≡ c) }
+    ensures other { IfNone result (is_queued_at c standing ≡ false) }
+{
+    match standing {
+        Some(Standing::Queued(ticket)) => {
+            if ticket.cluster == c {
+                Some(ticket)
+            } else {
+                None
+            }
+        }
+        Some(Standing::Held(_)) => None,
+        Some(Standing::Blocked(_)) => None,
+        Some(Standing::Ended) => None,
+        None => None,
+    }
+}
 
 impl<K: Cluster> Machine<K> {
     /// The hand's thread enters a queue.
@@ -67,18 +91,26 @@ impl<K: Cluster> Machine<K> {
         if self.parts.holds(actor) {
             return Answer::HandFull;
         }
-        match self.names.get(name) {
-            Some(Standing::Queued(ticket)) if ticket.cluster == self.parts.home(actor) => {
+        let standing = self.names.get(name);
+        match ticket_at(standing, self.parts.home(actor)) {
+            Some(ticket) => {
                 self.parts.pull(actor, name, ticket, now);
                 self.names.set(name, Standing::Held(actor));
                 Answer::Yes
             }
-            standing => Answer::NotQueued(place_at(standing)),
+            None => Answer::NotQueued(place_at(standing)),
         }
     }
 
     /// Notes that a thread that was got is in the hand.
-    fn note_held(&mut self, actor: u8, answer: Answer) {
+    fn note_held(&mut self, actor: u8, answer: Answer)
+        requires { (name : ℕ) → answer ≡ answers.Got name → IsSome (standing_of self.old.names name) }
+        ensures parts { self.new.parts ≡ self.old.parts }
+        ensures yard { self.new.yard ≡ self.old.yard }
+        ensures steps { self.new.steps ≡ self.old.steps }
+        ensures held { (name : ℕ) → answer ≡ answers.Got name → (other : ℕ) → standing_of self.new.names other ≡ (if other == name then Some (standings.Held actor) else standing_of self.old.names other) }
+        ensures rest { ((name : ℕ) → answer ≢ answers.Got name) → self.new.names ≡ self.old.names }
+    {
         if let Answer::Got(name) = answer {
             self.names.set(name, Standing::Held(actor));
         }
