@@ -1,6 +1,6 @@
 -- A thread goes to sleep, wakes, and the blocked ones are counted.
 use Rattle.std.proofs.Common.{◌≡◌, ◌≢◌, ℕ, ◌==◌, ◌+◌, ◌-◌, Bool, false, not, Contains, [], ◌∷◌, ◌++◌, Some, None, count_by, is_none, is_some, refl, sym, ap, ◌∙◌, subst, inl, inr, arith, eq-eqb}
-use Rattle.std.proofs.lemmas.Bool.{cases_eq, false≢true, ne_eqb}
+use Rattle.std.proofs.lemmas.Bool.{cases_eq, false≢true, ne_eqb, cond-false}
 use Rattle.std.proofs.lemmas.List.{length_push}
 use Rattle.std.proofs.lemmas.List.Elements.{Contains-append_left, Contains-push}
 use Rattle.std.proofs.lemmas.Option.{none-some, same_Some}
@@ -10,21 +10,21 @@ use Rattle.sched_base.specs.declared.Act.TheVariants as acts
 use Rattle.sched_base.specs.declared.Answer.TheVariants as answers
 use Rattle.sched_base.specs.declared.Facts.{Facts}
 use Rattle.sched_base.specs.declared.Place.TheVariants as places
-use Rattle.flat_policy.specs.Policy.Machine.{Hand, Outcome, Sleeper, Yard, empty_hand, filled_hand, hand_empty, hand_full, kept_hand, not_blocked, sleep_outcome, sleepers_without, wake_outcome, wake_outcome_by, with_hand, with_yard}
+use Rattle.flat_policy.specs.Policy.Machine.{Hand, Outcome, Sleeper, Yard, empty_hand, filled_hand, first_refusal, hand_empty, hand_full, refuse, kept_hand, not_blocked, sleep_outcome, sleepers_without, wake_outcome, wake_outcome_by, with_hand, with_yard}
 use Rattle.flat_policy.specs.Policy.Setup.{SetupParts}
 use Rattle.trace_machine.specs.Acting.{ActsTo, IsSet, KeepsOn}
 use Rattle.trace_machine.specs.declared.names.Standing.TheVariants as standings
 use Rattle.trace_machine.specs.declared.yard.Resting.{Resting}
 use Rattle.trace_machine.specs.Machines.{HasYard, MachineView, MeansOver, StandsThere}
 use Rattle.trace_machine.specs.Parts.{AllServe, PartsView, cluster_at, hand_of, state_of}
-use Rattle.trace_machine.specs.Yards.{YardView, sleeper_in, standing_of}
+use Rattle.trace_machine.specs.Yards.{YardView, place_in, sleeper_in, slot_in, standing_of}
 use Rattle.trace_machine.proofs.ActsTo.{quiet_frame, refused_by}
 use Rattle.trace_machine.proofs.Found.{filter_has, member_counted, one_fewer}
 use Rattle.trace_machine.proofs.Setting.{rehanded, serves_longer}
 use Rattle.trace_machine.proofs.Frames.{names_after}
 use Rattle.flat_policy.specs.Policy.Clusters.{NameStands}
 use Rattle.trace_machine.proofs.Standing.{KnowsPlaces, counted_once, within_all}
-use Rattle.trace_machine.proofs.StandingFound.{blocked_is, is_resting, sleeper_is}
+use Rattle.trace_machine.proofs.StandingFound.{blocked_is, is_resting, not_blocked_is, resting_is, sleeper_is}
 use Rattle.trace_machine.proofs.YardActs.{actor_within, held_apart, known, stands_held}
 use Rattle.trace_machine.proofs.YardMoves.{IsNoted, noted_here, noted_other, refusal_none, same_sleepers, yard_acts}
 
@@ -154,6 +154,14 @@ pub wake_accepted : (v : MachineView) (y : Yard) (a name slot : ℕ) → KnowsPl
 wake_accepted v y a name slot k empty stands =
     refusal_none (hand_full (hand_of v.parts a)) (not_blocked (state_of v.parts y) name ∷ []) (ap is_some empty)
     (refusal_none (not_blocked (state_of v.parts y) name) [] (ap not (blocked_is v y k name ∙ ap is_resting stands)) refl)
+
+-- a wake is refused where the hand is empty and the name is in no slot
+pub wake_refused : (v : MachineView) (y : Yard) (a name : ℕ) → KnowsPlaces v y → (hand_of v.parts a).thread ≡ None → slot_in (standing_of v.names name) ≡ None
+    → refused_by v.parts y a (acts.Wake name) ≡ Some (answers.NotBlocked (place_in (standing_of v.names name)))
+wake_refused v y a name k empty elsewhere =
+    cond-false (is_some (hand_of v.parts a).thread) (Some answers.HandFull) (first_refusal (not_blocked (state_of v.parts y) name ∷ [])) (ap is_some empty)
+    ∙ ap (λ r. first_refusal (r ∷ [])) (not_blocked_is v y k name)
+    ∙ ap (λ b. first_refusal (refuse (not b) (answers.NotBlocked (place_in (standing_of v.names name))) ∷ [])) (resting_is (standing_of v.names name) ∙ ap is_some elsewhere)
 
 -- a thread wakes: t is the sleeper's with the span since it went to sleep to be counted
 pub wake_acts : (old new : MachineView) (y : Yard) (a now name slot : ℕ) (t : Facts)

@@ -1,5 +1,5 @@
 -- What the policy finds by a name: its entry, its hand, its sleeper, and the refusals of a pull and a wake.
-use Rattle.std.proofs.Common.{◌≡◌, ◌≢◌, ℕ, ◌==◌, ◌≤◌, Bool, true, false, not, cond, Option, Some, None, is_none, refl, sym, ap, ◌∙◌, subst, inl, inr, arith, eq-eqb}
+use Rattle.std.proofs.Common.{◌≡◌, ◌≢◌, ℕ, ◌==◌, ◌≤◌, Bool, true, false, not, cond, Option, Some, None, is_none, is_some, refl, sym, ap, ◌∙◌, subst, inl, inr, arith, eq-eqb}
 use Rattle.std.proofs.lemmas.Bool.{cases_eq, ne_eqb}
 use Rattle.link_arena.specs.Arena.{value_at}
 use Rattle.sched_base.specs.declared.Answer.TheVariants as answers
@@ -14,7 +14,7 @@ use Rattle.trace_machine.specs.declared.names.Standing.TheVariants as standings
 use Rattle.trace_machine.specs.declared.yard.Resting.{Resting}
 use Rattle.trace_machine.specs.Machines.{MachineView, StandsThere}
 use Rattle.trace_machine.specs.Parts.{IsQueuedAs, cluster_at, hand_of, state_of}
-use Rattle.trace_machine.specs.Yards.{is_queued_at, place_in, sleeper_in, standing_of}
+use Rattle.trace_machine.specs.Yards.{place_in, sleeper_in, slot_in, standing_of}
 use Rattle.trace_machine.proofs.Found.{any_from_counted, counted, found_alone, found_none, member_counted}
 use Rattle.trace_machine.proofs.Setting.{flat_here}
 use Rattle.trace_machine.proofs.Standing.{KnowsPlaces, counted_once, place_is, standing_member, within_all}
@@ -41,6 +41,22 @@ is_resting (Some (standings.Queued t)) = false
 is_resting (Some (standings.Held a)) = false
 is_resting (Some (standings.Blocked slot)) = true
 is_resting (Some standings.Ended) = false
+
+-- a standing is in the yard exactly where it names a slot
+pub resting_is : (st : Option Standing) → is_resting st ≡ is_some (slot_in st)
+resting_is None = refl
+resting_is (Some (standings.Queued t)) = refl
+resting_is (Some (standings.Held a)) = refl
+resting_is (Some (standings.Blocked slot)) = refl
+resting_is (Some standings.Ended) = refl
+
+-- the standing that names a slot
+pub slot_is : (st : Option Standing) (slot : ℕ) → slot_in st ≡ Some slot → st ≡ Some (standings.Blocked slot)
+slot_is None slot e = absurd (cc)
+slot_is (Some (standings.Queued t)) slot e = absurd (cc)
+slot_is (Some (standings.Held a)) slot e = absurd (cc)
+slot_is (Some (standings.Blocked at)) slot e = (let same : at ≡ slot = cc in ap (λ n. Some (standings.Blocked n)) same)
+slot_is (Some standings.Ended) slot e = absurd (cc)
 
 -- a queued name's ticket names its entry
 pub queued_is : (v : MachineView) (y : Yard) → KnowsPlaces v y → (name : ℕ) (t : Ticket) → standing_of v.names name ≡ Some (standings.Queued t)

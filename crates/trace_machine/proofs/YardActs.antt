@@ -1,7 +1,7 @@
 -- Making and ending a thread.
-use Rattle.std.proofs.Common.{◌≡◌, ◌≢◌, ℕ, ◌==◌, ◌||◌, ◌+◌, ◌-◌, ◌≤◌, ◌<◌, Bool, true, false, cond, List, [], ◌∷◌, ◌++◌, Option, Some, None, is_none, is_some, length, nat_le, refl, sym, ap, ◌∙◌, subst, inl, inr, arith, eq-eqb}
+use Rattle.std.proofs.Common.{◌≡◌, ◌≢◌, ℕ, ◌==◌, ◌+◌, ◌-◌, ◌≤◌, ◌<◌, true, false, [], ◌∷◌, ◌++◌, Option, Some, None, is_none, is_some, length, refl, sym, ap, ◌∙◌, subst, arith, eq-eqb}
 use Rattle.std.specs.List.{list_any}
-use Rattle.std.proofs.lemmas.Bool.{lt-leb, ne_eqb, or_from, or_left, or_right}
+use Rattle.std.proofs.lemmas.Bool.{le-leb, lt-leb, ne_eqb, or_from, or_left, or_right}
 use Rattle.std.proofs.lemmas.List.{length_push}
 use Rattle.std.proofs.lemmas.List.Folds.{list_any-append}
 use Rattle.std.proofs.lemmas.Option.{same_Some}
@@ -12,12 +12,12 @@ use Rattle.sched_base.specs.declared.Answer.TheVariants as answers
 use Rattle.sched_base.specs.declared.Bucket.{Bucket}
 use Rattle.sched_base.specs.declared.Facts.{Facts}
 use Rattle.flat_policy.specs.Policy.Machine.{Hand, Yard, empty_hand, end_outcome, filled_hand, hand_empty, hand_full, name_used, no_room}
-use Rattle.flat_policy.specs.Policy.Setup.{SetupParts, actor_count}
+use Rattle.flat_policy.specs.Policy.Setup.{actor_count}
 use Rattle.flat_policy.specs.Policy.Threads.{made_thread}
 use Rattle.trace_machine.specs.Acting.{ActsTo, IsSet, KeepsOn}
 use Rattle.trace_machine.specs.declared.names.Standing.TheVariants as standings
 use Rattle.trace_machine.specs.declared.yard.Resting.{Resting}
-use Rattle.trace_machine.specs.Machines.{HasYard, MachineView, MeansOver, StandsThere}
+use Rattle.trace_machine.specs.Machines.{MachineView, MeansOver, StandsThere}
 use Rattle.trace_machine.specs.Parts.{PartsView, hand_of, state_of}
 use Rattle.trace_machine.specs.Yards.{YardView, standing_of}
 use Rattle.trace_machine.proofs.ActsTo.{refused_by}
@@ -25,7 +25,7 @@ use Rattle.trace_machine.proofs.LiveNames.{away_within}
 use Rattle.trace_machine.proofs.Setting.{rehanded}
 use Rattle.trace_machine.proofs.Standing.{KnowsPlaces, used_is}
 use Rattle.trace_machine.proofs.StandingFound.{held_is}
-use Rattle.trace_machine.proofs.YardMoves.{IsNoted, YardMove, apart_from_sleepers, hand_is, noted_other, refusal_none, same_sleepers, yard_acts}
+use Rattle.trace_machine.proofs.YardMoves.{IsNoted, apart_from_sleepers, hand_is, noted_other, refusal_here, refusal_next, refusal_none, same_sleepers, yard_acts}
 
 -- what is known of the names of a machine in code, by what the laws say of it
 pub known : (v : MachineView) (y : Yard) → MeansOver v y → KeepsOn v y → KnowsPlaces v y
@@ -51,6 +51,22 @@ make_accepted v y a name group base bucket bound k empty unnamed room =
     refusal_none (hand_full (hand_of v.parts a)) (name_used y name ∷ no_room v.parts.setup y ∷ []) (ap is_some empty)
     (refusal_none (name_used y name) (no_room v.parts.setup y ∷ []) (used_is v y k name ∙ ap is_some unnamed)
     (refusal_none (no_room v.parts.setup y) [] (lt-leb v.parts.setup.threads (length y.made - length y.ended) (omega (arith, room, k.yard.live))) refl))
+
+-- a make is refused where the name was made, and where as many threads live as may
+pub make_used : (v : MachineView) (y : Yard) (a name group base : ℕ) (bucket : Bucket) (bound : Option ℕ) → KnowsPlaces v y
+    → (hand_of v.parts a).thread ≡ None → is_some (standing_of v.names name) ≡ true
+    → refused_by v.parts y a (acts.Make name group bucket base bound) ≡ Some answers.NameUsed
+make_used v y a name group base bucket bound k empty named =
+    refusal_next (hand_full (hand_of v.parts a)) (name_used y name ∷ no_room v.parts.setup y ∷ []) (ap is_some empty)
+    ∙ refusal_here (name_used y name) (no_room v.parts.setup y ∷ []) (used_is v y k name ∙ named)
+
+pub make_crowded : (v : MachineView) (y : Yard) (a name group base : ℕ) (bucket : Bucket) (bound : Option ℕ) → KnowsPlaces v y
+    → (hand_of v.parts a).thread ≡ None → standing_of v.names name ≡ None → v.parts.setup.threads ≤ v.yard.live
+    → refused_by v.parts y a (acts.Make name group bucket base bound) ≡ Some answers.NoRoom
+make_crowded v y a name group base bucket bound k empty unnamed full =
+    refusal_next (hand_full (hand_of v.parts a)) (name_used y name ∷ no_room v.parts.setup y ∷ []) (ap is_some empty)
+    ∙ refusal_next (name_used y name) (no_room v.parts.setup y ∷ []) (used_is v y k name ∙ ap is_some unnamed)
+    ∙ refusal_here (no_room v.parts.setup y) [] (le-leb v.parts.setup.threads (length y.made - length y.ended) (omega (arith, full, k.yard.live)))
 
 -- making a thread
 pub make_acts : (old new : MachineView) (y : Yard) (a now name group base : ℕ) (bucket : Bucket) (bound : Option ℕ)

@@ -1,16 +1,15 @@
 -- Acts in the yard: one hand, the yard and one name change.
-use Rattle.std.proofs.Common.{◌≡◌, ◌≢◌, ℕ, ◌==◌, ◌||◌, ◌+◌, ◌≤◌, ◌<◌, Bool, true, false, cond, Contains, List, [], ◌∷◌, ◌++◌, Option, Some, None, is_none, is_some, length, refl, sym, ap, ◌∙◌, subst, inl, inr, arith, eq-eqb}
+use Rattle.std.proofs.Common.{◌≡◌, ◌≢◌, ℕ, ◌==◌, ◌+◌, ◌<◌, Bool, true, false, cond, Contains, List, ◌∷◌, Option, Some, None, is_some, length, refl, sym, ap, ◌∙◌, subst, inl, inr, arith, eq-eqb}
 use Rattle.std.specs.List.{list_any}
-use Rattle.std.proofs.lemmas.Bool.{cases_Bool, cases_eq, cond-false, cond-true, eqb-false, eqb-true, ne_eqb, or_from}
-use Rattle.std.proofs.lemmas.List.Folds.{list_any-append}
+use Rattle.std.proofs.lemmas.Bool.{cases_eq, cond-false, cond-true, eqb-false, eqb-true, false≢true, ne_eqb}
 use Rattle.link_arena.specs.Arena.{live_count, value_at}
 use Rattle.sched_base.specs.declared.Act.{Act}
 use Rattle.sched_base.specs.declared.Answer.{Answer}
 use Rattle.sched_base.specs.declared.Facts.{Facts}
 use Rattle.flat_policy.specs.Policy.Clusters.{NameStands}
-use Rattle.flat_policy.specs.Policy.Machine.{Hand, MachineState, Outcome, Refusal, Yard, first_refusal, live_count as live_of, with_hand, with_yard}
-use Rattle.flat_policy.specs.Policy.Setup.{SetupParts, actor_count}
-use Rattle.trace_machine.specs.Acting.{ActsTo, IsSet}
+use Rattle.flat_policy.specs.Policy.Machine.{Hand, Outcome, Refusal, Yard, first_refusal, live_count as live_of, with_hand, with_yard}
+use Rattle.flat_policy.specs.Policy.Setup.{SetupParts}
+use Rattle.trace_machine.specs.Acting.{ActsTo}
 use Rattle.trace_machine.specs.declared.names.Standing.{Standing}
 use Rattle.trace_machine.specs.declared.names.Standing.TheVariants as standings
 use Rattle.trace_machine.specs.declared.yard.Resting.{Resting}
@@ -20,6 +19,11 @@ use Rattle.trace_machine.specs.Yards.{sleeper_in, standing_of}
 use Rattle.trace_machine.proofs.ActsTo.{accepted_is, refused_by}
 use Rattle.trace_machine.proofs.Frames.{Frame, names_after}
 use Rattle.trace_machine.proofs.Setting.{hand_changed, hand_other, rehanded, serves_longer}
+
+-- what is not there
+pub none_there : {X : Type 0} (o : Option X) → is_some o ≡ false → o ≡ None
+none_there None is = refl
+none_there (Some t) is = absurd (false≢true (sym is))
 
 -- the table of names with another standing of one name
 abbrev pub IsNoted : MachineView → MachineView → ℕ → Standing → Type 0
@@ -115,3 +119,10 @@ same_sleepers old new y after yard setup sleepers blocked last live table = reco
 -- what comes of refusals none of which holds
 pub refusal_none : (r : Refusal) (rs : List Refusal) → r.holds ≡ false → first_refusal rs ≡ None → first_refusal (r ∷ rs) ≡ None
 refusal_none r rs passes rest = cond-false r.holds (Some r.answer) (first_refusal rs) passes ∙ rest
+
+-- what comes of refusals the first of which holds, and the first of which doesn't
+pub refusal_here : (r : Refusal) (rs : List Refusal) → r.holds ≡ true → first_refusal (r ∷ rs) ≡ Some r.answer
+refusal_here r rs holds = cond-true r.holds (Some r.answer) (first_refusal rs) holds
+
+pub refusal_next : (r : Refusal) (rs : List Refusal) → r.holds ≡ false → first_refusal (r ∷ rs) ≡ first_refusal rs
+refusal_next r rs passes = cond-false r.holds (Some r.answer) (first_refusal rs) passes

@@ -33,10 +33,10 @@ place_in (Some (standings.Held a)) = places.Hand a
 place_in (Some (standings.Blocked slot)) = places.Blocked
 place_in (Some standings.Ended) = places.Ended
 
--- whether a standing is one in the queue of a cluster
-abbrev pub is_queued_at : ℕ → Option Standing → Bool
-is_queued_at c None = false
-is_queued_at c (Some (standings.Queued t)) = t.cluster == c
-is_queued_at c (Some (standings.Held a)) = false
-is_queued_at c (Some (standings.Blocked slot)) = false
-is_queued_at c (Some standings.Ended) = false
+-- the slot that a standing names in the yard
+abbrev pub slot_in : Option Standing → Option ℕ
+slot_in None = None
+slot_in (Some (standings.Queued t)) = None
+slot_in (Some (standings.Held a)) = None
+slot_in (Some (standings.Blocked slot)) = Some slot
+slot_in (Some standings.Ended) = None

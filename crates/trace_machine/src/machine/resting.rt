@@ -1,17 +1,47 @@
 //! Acts in the yard: threads are made, sleep, wake and end.
 
-ghost use Rattle.std.specs.Prelude.{◌≡◌, OnErr, OnOk};
+ghost use Rattle.std.specs.Prelude.{◌≡◌, ◌<◌, IfOk, None, OnErr};
 ghost use Rattle.sched_base.specs.declared.Act.TheVariants as acts;
+ghost use Rattle.flat_policy.specs.Policy.Machine.{Yard, first_refusal, refusals_by};
+ghost use Rattle.flat_policy.specs.Policy.Setup.{group_count};
+ghost use Rattle.flat_policy.specs.Policy.Threads.{preference};
 ghost use Rattle.trace_machine.specs.Acting.{Acts, IsSet};
+ghost use Rattle.trace_machine.specs.Machines.{MeansOver};
+ghost use Rattle.trace_machine.specs.Parts.{hand_of, state_of};
+ghost use Rattle.trace_machine.specs.Yards.{slot_in};
 
 use super::{Machine, place_at};
 use crate::names::Standing;
 use flat_policy::cluster::Cluster;
+use flat_policy::setup::Setup;
 use sched_base::{Answer, Bucket, Thread};
 use std::alloc::AllocError;
 
+/// The cluster that a thread prefers: the one that it is bound to, otherwise the setup's for its
+/// group and bucket.
+fn preference(setup: &Setup, group: u8, bucket: Bucket, bound: Option<u8>) -> u8
+    requires { group < group_count setup.now }
+    ensures { result ≡ preference setup.now group bucket bound }
+{
+    match bound {
+        Some(cluster) => cluster,
+        None => setup.prefer(group, bucket),
+    }
+}
+
+/// The slot that a standing names in the yard; `None` where it names another place.
+fn slot_at(standing: Option<Standing>) -> Option<u32>
+    ensures { result ≡ slot_in standing }
+{
+    match standing {
+        Some(Standing::Blocked(slot)) => Some(slot),
+        _ => None,
+    }
+}
+
 impl<K: Cluster> Machine<K> {
-    /// Makes a thread into the hand. An error is want of memory, and changes nothing.
+    /// Makes a thread into the hand. An error is want of memory: only a make that isn't refused may
+    /// answer it, and then nothing changes.
     pub fn make(
         &mut self,
         actor: u8,
@@ -23,8 +53,9 @@ impl<K: Cluster> Machine<K> {
         now: u64,
     ) -> Result<Answer, AllocError>
         requires { IsSet self.old actor now (acts.Make name group bucket base bound) }
-        ensures done { OnOk result (λ answer. Acts self.old self.new actor now (acts.Make name group bucket base bound) answer) }
+        ensures done { IfOk result (λ answer. Acts self.old self.new actor now (acts.Make name group bucket base bound) answer) }
         ensures err { OnErr result (self.new ≡ self.old) }
+        ensures accepted { OnErr result ((y : Yard) → MeansOver self.old y → first_refusal (refusals_by self.old.parts.setup (state_of self.old.parts y) actor (hand_of self.old.parts actor) (acts.Make name group bucket base bound)) ≡ None) }
     {
         self.stays();
         if self.parts.holds(actor) {
@@ -36,10 +67,7 @@ impl<K: Cluster> Machine<K> {
         if self.yard.live() >= self.parts.setup().threads() {
             return Ok(Answer::NoRoom);
         }
-        let prefer = match bound {
-            Some(cluster) => cluster,
-            None => self.parts.setup().prefer(group, bucket),
-        };
+        let prefer = preference(self.parts.setup(), group, bucket, bound);
         self.names.add(name, Standing::Held(actor))?;
         let thread = Thread::new(name, group, bucket, base, bound, prefer, now);
         self.parts.fill(actor, thread, now);
@@ -71,14 +99,15 @@ impl<K: Cluster> Machine<K> {
         if self.parts.holds(actor) {
             return Answer::HandFull;
         }
-        match self.names.get(name) {
-            Some(Standing::Blocked(slot)) => {
+        let standing = self.names.get(name);
+        match slot_at(standing) {
+            Some(slot) => {
                 let thread = self.yard.wake(slot, now);
                 self.parts.fill(actor, thread, now);
                 self.names.set(name, Standing::Held(actor));
                 Answer::Yes
             }
-            standing => Answer::NotBlocked(place_at(standing)),
+            None => Answer::NotBlocked(place_at(standing)),
         }
     }
 
