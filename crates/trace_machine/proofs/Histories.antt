@@ -84,3 +84,9 @@ pub history_grows : (setup : SetupParts) (g : MachineState) (s : Step) (n : ℕ)
     → (h : List Entry) × GRun setup h (state_after setup g s) × (length h ≤ n + 1)
 history_grows setup g s n old sound fits =
     (old.0 ++ reply setup g s ∷ [], runs_on setup (empty_machine setup) old.0 g s old.1 sound fits, omega (arith, old.2, length_push old.0 (reply setup g s)))
+
+-- the effective moment of a step that fits is in range
+pub moment_soon : (setup : SetupParts) (g : MachineState) (s : Step) → Sound setup g → IsTrue (fits_step setup s) → effective_moment setup g s < moment_limit
+moment_soon setup g s sound fits =
+    let rest = nat_lt s.actor (actor_count setup) && (fits_act setup s.act && numbers_fit s.act) in
+    omega (arith, ltb-true s.moment moment_limit (and_parts (nat_lt s.moment moment_limit) rest fits).0, hand_soon setup g s.actor sound, spot_soon setup g sound (spot_of setup s))

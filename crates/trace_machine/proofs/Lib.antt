@@ -25,6 +25,7 @@ pub mod SleepActs
 pub mod Spots
 pub mod Standing
 pub mod StandingFound
+pub mod Stepped
 pub mod TakingActs
 pub mod Touching
 pub mod YardActs

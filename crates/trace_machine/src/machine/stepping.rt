@@ -49,7 +49,7 @@ impl<K: Cluster> Machine<K> {
         requires machine { IsMachine self.old }
         requires fits { IsTrue (fits_step self.old.parts.setup s.now) }
         requires few { self.old.steps < 2 ^ 50 }
-        ensures steps { OnOk result (λ told. StepsTo self.old self.new s.now told) }
+        ensures steps { IfOk result (λ told. StepsTo self.old self.new s.now told) }
         ensures count { OnOk result (self.new.steps ≡ self.old.steps + 1) }
         ensures err { OnErr result (self.new ≡ self.old) }
         ensures accepted { OnErr result ((g : MachineState) → Means self.old g → refusal self.old.parts.setup g s.now ≡ None) }
@@ -103,7 +103,7 @@ impl<K: Cluster> Machine<K> {
     /// What each act does.
     fn act(&mut self, actor: u8, act: &Act, now: u64) -> Result<Answer, AllocError>
         requires { IsSet self.old actor now act.now }
-        ensures done { OnOk result (λ answer. Acts self.old self.new actor now act.now answer) }
+        ensures done { IfOk result (λ answer. Acts self.old self.new actor now act.now answer) }
         ensures err { OnErr result (self.new ≡ self.old) }
         ensures accepted { OnErr result ((y : Yard) → MeansOver self.old y → (first_refusal (refusals_by self.old.parts.setup (state_of self.old.parts y) actor (hand_of self.old.parts actor) act.now) ≡ None)) }
     {
