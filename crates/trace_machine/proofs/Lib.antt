@@ -22,7 +22,6 @@ pub mod Readings
 pub mod Refusals
 pub mod Setting
 pub mod SleepActs
-pub mod Spots
 pub mod Standing
 pub mod StandingFound
 pub mod Stepped

@@ -1,7 +1,6 @@
 -- Where names stand in a machine in code, and what the policy says of them.
 use Rattle.std.proofs.Common.{◌≡◌, ℕ, ◌==◌, ◌&&◌, ◌+◌, ◌≤◌, Bool, false, cond, Contains, List, [], ◌∷◌, Option, Some, None, count_by, is_some, length, sum_by, unwrap_or, refl, sym, ap, ◌∙◌, subst, inl, inr, arith, eq-eqb}
 use Rattle.std.specs.List.{list_any}
-use Rattle.std.proofs.Math.ListN.{get_or-map}
 use Rattle.std.proofs.lemmas.Bool.{cases_Bool, cases_lt, cond-false, cond-true}
 use Rattle.std.proofs.lemmas.List.{get_or_past}
 use Rattle.std.proofs.lemmas.List.Sums.{get_or-le-sum_by, sum_by-cons}
@@ -10,15 +9,15 @@ use Rattle.sched_base.specs.declared.Place.{Place}
 use Rattle.sched_base.specs.declared.Place.TheVariants as places
 use Rattle.flat_policy.specs.Laws.Counts.{EachNameOnce, RunsKeepCounts}
 use Rattle.flat_policy.specs.Laws.Places.{PlaceIsWhereItStands}
-use Rattle.flat_policy.specs.Policy.Clusters.{ClusterView, standing_among}
+use Rattle.flat_policy.specs.Policy.Clusters.{standing_among}
 use Rattle.flat_policy.specs.Policy.ClusterSteps.{named_entry}
-use Rattle.flat_policy.specs.Policy.Machine.{Hand, MachineState, Sleeper, Yard, count_at, count_held, count_queued, flat_at, held_by, holds, in_yard, is_blocked, no_hand, place_count, place_of, queued_in}
+use Rattle.flat_policy.specs.Policy.Machine.{Hand, MachineState, Sleeper, Yard, count_at, count_held, count_queued, held_by, holds, in_yard, is_blocked, no_hand, place_count, place_of, queued_in}
 use Rattle.flat_policy.specs.Policy.Queue.{Flat, Queued, empty_flat}
 use Rattle.trace_machine.specs.declared.names.Standing.{Standing}
 use Rattle.trace_machine.specs.declared.names.Standing.TheVariants as standings
 use Rattle.trace_machine.specs.declared.yard.Resting.{Resting}
 use Rattle.trace_machine.specs.Machines.{HasYard, MachineView, MeansOver, StandsThere}
-use Rattle.trace_machine.specs.Parts.{PartsView, cluster_at, no_cluster, state_of}
+use Rattle.trace_machine.specs.Parts.{cluster_at, state_of}
 use Rattle.trace_machine.specs.Yards.{place_in, sleeper_in, standing_of}
 use Rattle.trace_machine.proofs.Found.{contains_here, contains_later, counted_from_any, found_none, member_counted, none_from_uncounted}
 use Rattle.trace_machine.proofs.Setting.{flat_here}

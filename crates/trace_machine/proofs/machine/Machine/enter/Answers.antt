@@ -1,6 +1,5 @@
 use Rattle.std.proofs.Common.{◌≡◌, ◌<◌, false, IsSome, Some, is_some, length, option_map, ap, sym, subst, ◌∙◌}
 use Rattle.std.proofs.lemmas.Bool.{ltb-true}
-use Rattle.flat_policy.specs.Policy.Clusters.{NameStands}
 use Rattle.flat_policy.specs.Policy.Machine.{not_allowed}
 use Rattle.flat_policy.specs.Policy.Setup.{cluster_count}
 use Rattle.sched_base.specs.declared.Act.TheVariants as acts

@@ -1,4 +1,4 @@
-use Rattle.std.proofs.Common.{◌≡◌, false, IsSome, Some, None, is_some, ap, sym, subst, ◌∙◌}
+use Rattle.std.proofs.Common.{◌≡◌, false, IsSome, is_some, ap, sym, subst, ◌∙◌}
 use Rattle.sched_base.specs.declared.Act.TheVariants as acts
 use Rattle.trace_machine.specs.Machines.{MachineView, MeansOver}
 use Rattle.trace_machine.specs.Parts.{Does, PartsView, hand_of}
