@@ -1,5 +1,5 @@
 -- A step, from the act at its effective moment.
-use Rattle.std.proofs.Common.{◌≡◌, ℕ, ◌+◌, ◌<◌, ◌≤◌, ◌^◌, IsTrue, List, Option, Some, None, length, refl, sym, ap, ap₂, ◌∙◌, subst, arith}
+use Rattle.std.proofs.Common.{◌≡◌, ℕ, ◌+◌, ◌<◌, ◌≤◌, ◌^◌, IsTrue, List, Option, Some, None, Result, Ok, Err, OnErr, length, refl, sym, ap, ap₂, ◌∙◌, subst, arith}
 use Rattle.sched_base.specs.Limits.{moment_limit}
 use Rattle.sched_base.specs.declared.Act.{Act}
 use Rattle.sched_base.specs.declared.Answer.{Answer}
@@ -115,3 +115,8 @@ steps_to old new last s now answer keeps fits moment acts is g means =
     subst (λ (w : MachineView). (told ≡ reply_in (reply setup g s)) × Means w (state_after setup g s) × (w.parts.setup ≡ setup)) (sym is)
     (subst (λ (h : MachineState). (told ≡ reply_in (reply setup h s)) × Means (record new { steps = new.steps + 1 }) (state_after setup h s) × (new.parts.setup ≡ setup)) (sym means.1)
     (steps_there old new s now answer y over (keeps y over) fits (moment y over) (acts y over)))
+
+-- what holds in any case holds of an error
+pub on_error : {T E : Type 0} (r : Result T E) {P : Type 0} → P → OnErr r P
+on_error (Ok value) p = tt
+on_error (Err e) p = p
