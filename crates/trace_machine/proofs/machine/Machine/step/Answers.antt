@@ -1,6 +1,6 @@
-use Rattle.std.proofs.Common.{◌≡◌, ◌+◌, ap, refl, sym, subst, None, ◌∙◌}
-use Rattle.flat_policy.specs.Policy.Machine.{MachineState, refusal, state_after}
-use Rattle.trace_machine.specs.Machines.{MachineView, Means}
+use Rattle.std.proofs.Common.{◌+◌, ap, ◌∙◌}
+use Rattle.flat_policy.specs.Policy.Machine.{refusal}
+use Rattle.trace_machine.specs.Machines.{MachineView}
 use Rattle.trace_machine.proofs.Stepped.{on_error, set_for, steps_to}
 use Rattle.trace_machine.proofs.machine.Machine.step.Goals as goal
 
