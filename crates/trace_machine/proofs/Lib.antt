@@ -20,6 +20,7 @@ pub mod PullActs
 pub mod QueueRoom
 pub mod Readings
 pub mod Refusals
+pub mod Running
 pub mod Setting
 pub mod SleepActs
 pub mod Standing

@@ -1,9 +1,7 @@
 -- A step, from the act at its effective moment.
-use Rattle.std.proofs.Common.{◌≡◌, ℕ, ◌+◌, ◌<◌, ◌≤◌, ◌^◌, IsTrue, List, Option, Some, None, Result, Ok, Err, OnErr, length, refl, sym, ap, ap₂, ◌∙◌, subst, arith}
+use Rattle.std.proofs.Common.{◌≡◌, ℕ, ◌+◌, ◌<◌, ◌≤◌, ◌^◌, IsTrue, Option, Some, None, Result, Ok, Err, OnErr, refl, sym, ap, ap₂, ◌∙◌, subst, arith}
 use Rattle.sched_base.specs.Limits.{moment_limit}
-use Rattle.sched_base.specs.declared.Act.{Act}
 use Rattle.sched_base.specs.declared.Answer.{Answer}
-use Rattle.sched_base.specs.declared.Entry.{Entry}
 use Rattle.sched_base.specs.declared.Spot.{Spot}
 use Rattle.sched_base.specs.declared.Spot.TheVariants as spots
 use Rattle.sched_base.specs.declared.Step.{Step}
@@ -11,12 +9,12 @@ use Rattle.link_arena.specs.Arena.{value_at}
 use Rattle.flat_policy.specs.Policy.Clusters.{NameStands}
 use Rattle.sched_base.specs.declared.Facts.{Facts}
 use Rattle.flat_policy.specs.Policy.BuiltSetups.{IsSetup}
-use Rattle.flat_policy.specs.Policy.Machine.{GRun, MachineState, Yard, effective_moment, fits_step, hand_at, last_at, outcome, refusal, reply, site_of, spot_from, spot_of, state_after}
+use Rattle.flat_policy.specs.Policy.Machine.{GRun, MachineState, Yard, effective_moment, fits_step, last_at, reply, spot_of, state_after}
 use Rattle.flat_policy.specs.Policy.Queue.{Flat}
-use Rattle.flat_policy.specs.Policy.Setup.{SetupParts, actor_count, cluster_count, home_of}
-use Rattle.trace_machine.specs.Acting.{Acts, ActsTo, IsSet, KeepsOn, outcome_at}
-use Rattle.trace_machine.specs.Machines.{IsMachine, MachineView, Means, MeansOver, StandsThere, StepsTo, reply_in}
-use Rattle.trace_machine.specs.Parts.{AllServe, IsReady, PartsView, cluster_at, hand_of, state_of}
+use Rattle.flat_policy.specs.Policy.Setup.{SetupParts, actor_count, cluster_count}
+use Rattle.trace_machine.specs.Acting.{Acts, ActsTo, IsSet, KeepsOn}
+use Rattle.trace_machine.specs.Machines.{MachineView, Means, MeansOver, StandsThere, StepsTo, reply_in}
+use Rattle.trace_machine.specs.Parts.{AllServe, PartsView, cluster_at, hand_of, state_of}
 use Rattle.trace_machine.specs.Yards.{YardView, standing_of}
 use Rattle.trace_machine.specs.declared.Reply.{Reply}
 use Rattle.trace_machine.specs.declared.names.Standing.{Standing}

@@ -1,7 +1,6 @@
-use Rattle.std.specs.Prelude.{List, drop, length, map, ℕ, ◌++◌, ◌+◌, ◌≡◌, ◌≤◌, ◌^◌}
-use Rattle.flat_policy.specs.Policy.Machine.{MachineState, replies, states_after}
-use Rattle.trace_machine.specs.Machines.{IsMachine, Means, reply_in}
-use Rattle.trace_machine.proofs.machine.Machine.replies.Places as place
+use Rattle.std.specs.Prelude.{drop}
+use Rattle.trace_machine.proofs.Running.{RunsSoFar}
+use Rattle.trace_machine.proofs.machine.Machine.replies.Given as goal
 
-pub invariant-loop-step : place.invariant-loop-step
-invariant-loop-step g l = IsMachine l.self
+abbrev pub invariant-loop-step : goal.invariant-loop-step
+invariant-loop-step g l = RunsSoFar l.fn.self l.self l.told.items l.steps (drop l.step-index l.steps)
