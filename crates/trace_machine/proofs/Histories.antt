@@ -1,5 +1,5 @@
 -- A history of the machine grows by one line at its end: the reply to the next step.
-use Rattle.std.proofs.Common.{◌≡◌, ℕ, ◌+◌, ◌<◌, ◌≤◌, ◌&&◌, List, [], ◌∷◌, ◌++◌, length, Option, Some, None, IsTrue, nat_lt, refl, sym, ap, ◌∙◌, subst, inl, inr, arith}
+use Rattle.std.proofs.Common.{◌≡◌, ℕ, Contains, ◌+◌, ◌<◌, ◌≤◌, ◌&&◌, List, [], ◌∷◌, ◌++◌, length, Option, Some, None, IsTrue, nat_lt, refl, sym, ap, ◌∙◌, subst, inl, inr, arith}
 use Rattle.std.proofs.lemmas.Bool.{and_from, and_parts, cases_lt, lt-ltb, ltb-true}
 use Rattle.std.proofs.lemmas.List.{get_or_past, length_push}
 use Rattle.sched_base.specs.Limits.{moment_limit}
@@ -8,8 +8,9 @@ use Rattle.sched_base.specs.declared.Entry.{Entry}
 use Rattle.sched_base.specs.declared.Spot.{Spot}
 use Rattle.sched_base.specs.declared.Spot.TheVariants as spots
 use Rattle.sched_base.specs.declared.Step.{Step}
-use Rattle.flat_policy.specs.Laws.Sound.{Sound}
-use Rattle.flat_policy.specs.Policy.Machine.{GRun, Hand, MachineState, Outcome, RunsFrom, accepted_by, effective_moment, empty_machine, fits_act, fits_step, hand_at, last_at, no_hand, numbers_fit, outcome, outcome_by, refusal, reply, spot_of, state_after}
+use Rattle.flat_policy.specs.Laws.Sound.{Sound, StepsKeepSound}
+use Rattle.trace_machine.proofs.Found.{contains_here, contains_later}
+use Rattle.flat_policy.specs.Policy.Machine.{GRun, Hand, MachineState, Outcome, RunsFrom, accepted_by, effective_moment, empty_machine, fits_act, fits_step, hand_at, last_at, no_hand, numbers_fit, outcome, outcome_by, refusal, replies, reply, spot_of, state_after, states_after}
 use Rattle.flat_policy.specs.Policy.Queue.{Flat, empty_flat}
 use Rattle.flat_policy.specs.Policy.Setup.{SetupParts, actor_count, cluster_count}
 
@@ -90,3 +91,16 @@ pub moment_soon : (setup : SetupParts) (g : MachineState) (s : Step) → Sound s
 moment_soon setup g s sound fits =
     let rest = nat_lt s.actor (actor_count setup) && (fits_act setup s.act && numbers_fit s.act) in
     omega (arith, ltb-true s.moment moment_limit (and_parts (nat_lt s.moment moment_limit) rest fits).0, hand_soon setup g s.actor sound, spot_soon setup g sound (spot_of setup s))
+
+-- the replies to steps that the setup fits are a history
+pub replies_run : (setup : SetupParts) (g : MachineState) (steps : List Step) → StepsKeepSound → Sound setup g → ((s : Step) → Contains steps s → IsTrue (fits_step setup s))
+    → RunsFrom setup g (replies setup g steps) (states_after setup g steps)
+replies_run setup g [] keep sound fits = refl
+replies_run setup g (s ∷ ss) keep sound fits =
+    let fit = fits s (contains_here s ss) in (
+      settled_fits setup g s sound fit,
+      reply_settles setup g s,
+      subst (λ (h : MachineState). RunsFrom setup h (replies setup (state_after setup g s) ss) (states_after setup (state_after setup g s) ss))
+          (sym (ap (λ (o : Outcome). o.state) (outcome_settles setup g s)))
+          (replies_run setup (state_after setup g s) ss keep (keep setup g s sound fit) (λ t c. fits t (contains_later s ss t c))),
+    )

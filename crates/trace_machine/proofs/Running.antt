@@ -29,16 +29,15 @@ runs_next old now next told all rest s r run steps count =
       setup = here.2 ∙ run.setup;
       few = omega (arith, run.few, count);
       goes = λ g means.
-      let h = run.goes g means in
-      let done = steps h.0 h.1 in
-      let after : MachineState = state_after old.parts.setup h.0 s in
-      let more : List Reply = map reply_in (replies old.parts.setup after rest) in
-      (
-        after,
-        subst (λ p. Means next (state_after p h.0 s)) run.setup done.1,
-        append_assoc told (r ∷ []) more ∙ (ap (λ q. told ++ q ∷ more) (done.0 ∙ ap (λ p. reply_in (reply p h.0 s)) run.setup) ∙ h.2),
-        h.3,
-      );
+          let h = run.goes g means in
+          let done = steps h.0 h.1 in
+          let after : MachineState = state_after old.parts.setup h.0 s in
+          let more : List Reply = map reply_in (replies old.parts.setup after rest) in (
+            after,
+            subst (λ p. Means next (state_after p h.0 s)) run.setup done.1,
+            append_assoc told (r ∷ []) more ∙ (ap (λ q. told ++ q ∷ more) (done.0 ∙ ap (λ p. reply_in (reply p h.0 s)) run.setup) ∙ h.2),
+            h.3,
+          );
     }
 
 -- after the last step

@@ -94,8 +94,7 @@ steps_there old new s now answer y over keeps fits moment done =
       };
       names = λ name. same_standing new last done.after name (standing_of new.names name) refl refl (done.names name);
       history = (run.0, subst (λ (p : SetupParts). GRun p run.0 (state_of new.parts done.after)) (sym done.keeps_setup) (subst (GRun setup run.0) state run.1), omega (arith, run.2, done.steps));
-    } in
-    (
+    } in (
       ap₂ (λ n a. record { moment = n; answer = a }) moment (sym (ap (λ o. o.answer) comes ∙ done.answers)),
       (done.after, state, next),
       done.keeps_setup,

@@ -4,6 +4,7 @@
 #![tactic(auto)]
 
 mod hand;
+pub mod laws;
 mod machine;
 mod names;
 mod parts;
