@@ -1,5 +1,5 @@
 -- A machine in code before any step, and at its end.
-use Rattle.std.proofs.Common.{◌≡◌, ℕ, ◌+◌, ◌<◌, ◌≤◌, ◌^◌, List, [], Option, Some, None, length, map, refl, sym, ap, ◌∙◌, subst, arith}
+use Rattle.std.proofs.Common.{◌≡◌, ℕ, ◌≤◌, ◌^◌, [], None, length, refl, sym, ap, ◌∙◌, subst, arith}
 use Rattle.std.proofs.lemmas.List.{length-map}
 use Rattle.std.proofs.lemmas.Option.{none-some}
 use Rattle.link_arena.specs.Arena.{live_count, value_at}
@@ -9,8 +9,8 @@ use Rattle.flat_policy.specs.Policy.Machine.{Yard, empty_machine, empty_yard}
 use Rattle.flat_policy.specs.Policy.Setup.{SetupParts, cluster_count}
 use Rattle.trace_machine.specs.Acting.{KeepsOn}
 use Rattle.trace_machine.specs.Machines.{IsMachine, MachineView, Means, MeansOver, StandsThere}
-use Rattle.trace_machine.specs.Parts.{AllServe, PartsView, cluster_at, state_of}
-use Rattle.trace_machine.specs.Yards.{YardView, standing_of}
+use Rattle.trace_machine.specs.Parts.{AllServe, cluster_at, state_of}
+use Rattle.trace_machine.specs.Yards.{standing_of}
 use Rattle.trace_machine.proofs.Setting.{serves_longer}
 
 -- a machine of new parts, with an empty yard and no names, means the state before any step

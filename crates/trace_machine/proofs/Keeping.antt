@@ -8,7 +8,7 @@ use Rattle.sched_base.specs.declared.Spot.{Spot}
 use Rattle.sched_base.specs.declared.Spot.TheVariants as spots
 use Rattle.sched_base.specs.declared.Step.{Step}
 use Rattle.flat_policy.specs.Laws.Counts.{RunsKeepCounts, RunsStaySound, RunsStayWithin}
-use Rattle.flat_policy.specs.Laws.Places.{PlaceIsTheOne, PlaceIsWhereItStands}
+use Rattle.flat_policy.specs.Laws.Places.{PlaceIsWhereItStands}
 use Rattle.flat_policy.specs.Policy.Machine.{GRun, MachineState, Yard, effective_moment, fits_step, last_at, outcome, outcome_by, refusal, site_of, spot_from, state_after}
 use Rattle.flat_policy.specs.Policy.Setup.{SetupParts, actor_count, home_of}
 use Rattle.trace_machine.specs.Acting.{IsKept, IsSet, KeepsOn, outcome_at, outcome_from}
@@ -52,8 +52,8 @@ fits_is v a now act set =
 kept : (setup : SetupParts) (g : MachineState) (h : List Entry) → RunsStaySound → RunsKeepCounts → RunsStayWithin → GRun setup h g → IsKept setup g
 kept setup g h sound counts within run = record { sound = sound setup h g run; once = counts setup h g run; within = within setup h g run }
 
-pub keeps_on : (v : MachineView) (y : Yard) → MeansOver v y → RunsStaySound → RunsKeepCounts → RunsStayWithin → PlaceIsWhereItStands → PlaceIsTheOne → KeepsOn v y
-keeps_on v y means sound counts within stands one =
+pub keeps_on : (v : MachineView) (y : Yard) → MeansOver v y → RunsStaySound → RunsKeepCounts → RunsStayWithin → PlaceIsWhereItStands → KeepsOn v y
+keeps_on v y means sound counts within stands =
     let setup : SetupParts = v.parts.setup in
     let g : MachineState = state_of v.parts y in
     let h : List Entry = means.history.0 in
@@ -65,5 +65,4 @@ keeps_on v y means sound counts within stands one =
           subst (IsKept setup) (ap (λ o. o.state) (outcome_is setup g s now (effective_is v y a now act set same)))
           (kept setup (state_after setup g s) next.0 sound counts within next.1);
       where_it_stands = stands;
-      is_the_one = one;
     }

@@ -5,7 +5,7 @@ use Rattle.sched_base.specs.declared.Act.{Act}
 use Rattle.sched_base.specs.declared.Answer.{Answer}
 use Rattle.sched_base.specs.declared.Spot.TheVariants as spots
 use Rattle.flat_policy.specs.Laws.Counts.{EachNameOnce, StaysWithin}
-use Rattle.flat_policy.specs.Laws.Places.{PlaceIsTheOne, PlaceIsWhereItStands}
+use Rattle.flat_policy.specs.Laws.Places.{PlaceIsWhereItStands}
 use Rattle.flat_policy.specs.Laws.Sound.{Sound}
 use Rattle.flat_policy.specs.Policy.Machine.{MachineState, Outcome, Yard, accepted_by, first_refusal, fits_act, hand_at, numbers_fit, refusals_by, site_of, spot_from}
 use Rattle.flat_policy.specs.Policy.Setup.{SetupParts, home_of}
@@ -50,16 +50,14 @@ pub record ActsTo (old new : MachineView) (y : Yard) (a now : ℕ) (act : Act) (
 abbrev pub Acts : MachineView → MachineView → ℕ → ℕ → Act → Answer → Type 0
 Acts old new a now act told = (y : Yard) → MeansOver old y → ActsTo old new y a now act told
 
--- what the policy's laws say of the state that a machine means, and of those that an act leads to: it is sound, each name stands once, and no more
--- threads live than may
+-- a state is one of a history: it is sound, each name stands once, and no more threads live than may
 pub record IsKept (setup : SetupParts) (g : MachineState) : Type 0 where
   pub sound : Sound setup g
   pub once : EachNameOnce g
   pub within : StaysWithin setup g
 
--- where each name stands is told by the policy's law
+-- what the policy's laws say of a machine over a yard: of the state that it means, of the state after each act, and of where names stand
 pub record KeepsOn (v : MachineView) (y : Yard) : Type 0 where
   pub before : IsKept v.parts.setup (state_of v.parts y)
   pub after : (a now : ℕ) (act : Act) → IsSet v a now act → y.last ≡ v.yard.last → IsKept v.parts.setup (outcome_at v.parts.setup (state_of v.parts y) a now act).state
   pub where_it_stands : PlaceIsWhereItStands
-  pub is_the_one : PlaceIsTheOne

@@ -35,7 +35,7 @@ fn ticket_at(standing: Option<Standing>, c: u8) -> Option<Ticket>
 
 impl<K: Cluster> Machine<K> {
     /// The hand's thread enters a queue.
-    pub fn enter(&mut self, actor: u8, c: u8, head: bool, now: u64) -> Answer
+    pub(crate) fn enter(&mut self, actor: u8, c: u8, head: bool, now: u64) -> Answer
         requires { IsSet self.old actor now (acts.Enter c head) }
         ensures { Acts self.old self.new actor now (acts.Enter c head) result }
     {
@@ -52,7 +52,7 @@ impl<K: Cluster> Machine<K> {
     }
 
     /// The pick of the home's queue comes into the hand.
-    pub fn select(&mut self, actor: u8, now: u64) -> Answer
+    pub(crate) fn select(&mut self, actor: u8, now: u64) -> Answer
         requires { IsSet self.old actor now acts.Select }
         ensures { Acts self.old self.new actor now acts.Select result }
     {
@@ -66,7 +66,7 @@ impl<K: Cluster> Machine<K> {
     }
 
     /// What another cluster offers comes into the hand.
-    pub fn offer(&mut self, actor: u8, from: u8, now: u64) -> Answer
+    pub(crate) fn offer(&mut self, actor: u8, from: u8, now: u64) -> Answer
         requires { IsSet self.old actor now (acts.Offer from) }
         ensures { Acts self.old self.new actor now (acts.Offer from) result }
     {
@@ -83,7 +83,7 @@ impl<K: Cluster> Machine<K> {
     }
 
     /// A named thread comes out of the home's queue into the hand.
-    pub fn pull(&mut self, actor: u8, name: u32, now: u64) -> Answer
+    pub(crate) fn pull(&mut self, actor: u8, name: u32, now: u64) -> Answer
         requires { IsSet self.old actor now (acts.Pull name) }
         ensures { Acts self.old self.new actor now (acts.Pull name) result }
     {

@@ -42,7 +42,7 @@ fn slot_at(standing: Option<Standing>) -> Option<u32>
 impl<K: Cluster> Machine<K> {
     /// Makes a thread into the hand. An error is want of memory: only a make that isn't refused may
     /// answer it, and then nothing changes.
-    pub fn make(
+    pub(crate) fn make(
         &mut self,
         actor: u8,
         name: u32,
@@ -76,7 +76,7 @@ impl<K: Cluster> Machine<K> {
     }
 
     /// The hand's thread goes to sleep.
-    pub fn sleep(&mut self, actor: u8, now: u64) -> Answer
+    pub(crate) fn sleep(&mut self, actor: u8, now: u64) -> Answer
         requires { IsSet self.old actor now acts.Sleep }
         ensures { Acts self.old self.new actor now acts.Sleep result }
     {
@@ -91,7 +91,7 @@ impl<K: Cluster> Machine<K> {
     }
 
     /// A blocked thread comes into the hand.
-    pub fn wake(&mut self, actor: u8, name: u32, now: u64) -> Answer
+    pub(crate) fn wake(&mut self, actor: u8, name: u32, now: u64) -> Answer
         requires { IsSet self.old actor now (acts.Wake name) }
         ensures { Acts self.old self.new actor now (acts.Wake name) result }
     {
@@ -112,7 +112,7 @@ impl<K: Cluster> Machine<K> {
     }
 
     /// The hand's thread ends.
-    pub fn end_thread(&mut self, actor: u8, now: u64) -> Answer
+    pub(crate) fn end_thread(&mut self, actor: u8, now: u64) -> Answer
         requires { IsSet self.old actor now acts.End }
         ensures { Acts self.old self.new actor now acts.End result }
     {
@@ -127,7 +127,7 @@ impl<K: Cluster> Machine<K> {
     }
 
     /// Tells how many threads are blocked.
-    pub fn blocked(&mut self, actor: u8, now: u64) -> Answer
+    pub(crate) fn blocked(&mut self, actor: u8, now: u64) -> Answer
         requires { IsSet self.old actor now acts.Blocked }
         ensures { Acts self.old self.new actor now acts.Blocked result }
     {

@@ -13,7 +13,7 @@ use super::Machine;
 use crate::Reply;
 use flat_policy::cluster::Cluster;
 use flat_policy::laws::{
-    place_is_the_one, place_is_where_it_stands, runs_keep_counts, runs_stay_sound, runs_stay_within,
+    place_is_where_it_stands, runs_keep_counts, runs_stay_sound, runs_stay_within,
 };
 use sched_base::{Act, Answer, Spot, Step};
 use std::alloc::{AllocError, Global};
@@ -89,7 +89,7 @@ impl<K: Cluster> Machine<K> {
     }
 
     /// Does nothing. It tells what the policy's laws say of what the machine means.
-    pub fn stays(&self)
+    pub(crate) fn stays(&self)
         ensures { (y : Yard) → MeansOver self.now y → KeepsOn self.now y }
     {
         let _steps = &self.steps;
@@ -97,7 +97,6 @@ impl<K: Cluster> Machine<K> {
         runs_stay_sound();
         runs_stay_within();
         place_is_where_it_stands();
-        place_is_the_one();
     }
 
     /// What each act does.

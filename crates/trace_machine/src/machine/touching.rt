@@ -11,7 +11,7 @@ use sched_base::Answer;
 
 impl<K: Cluster> Machine<K> {
     /// Prices the entries of the home's queue anew.
-    pub fn refresh(&mut self, actor: u8, now: u64) -> Answer
+    pub(crate) fn refresh(&mut self, actor: u8, now: u64) -> Answer
         requires { IsSet self.old actor now acts.Refresh }
         ensures { Acts self.old self.new actor now acts.Refresh result }
     {
@@ -20,7 +20,7 @@ impl<K: Cluster> Machine<K> {
     }
 
     /// Turns a cluster off.
-    pub fn turn_off(&mut self, actor: u8, c: u8, now: u64) -> Answer
+    pub(crate) fn turn_off(&mut self, actor: u8, c: u8, now: u64) -> Answer
         requires { IsSet self.old actor now (acts.Off c) }
         ensures { Acts self.old self.new actor now (acts.Off c) result }
     {
@@ -30,7 +30,7 @@ impl<K: Cluster> Machine<K> {
     }
 
     /// Turns a cluster on.
-    pub fn turn_on(&mut self, actor: u8, c: u8, now: u64) -> Answer
+    pub(crate) fn turn_on(&mut self, actor: u8, c: u8, now: u64) -> Answer
         requires { IsSet self.old actor now (acts.On c) }
         ensures { Acts self.old self.new actor now (acts.On c) result }
     {
@@ -40,7 +40,7 @@ impl<K: Cluster> Machine<K> {
     }
 
     /// Looks at a cluster for the bucket of the hand's thread.
-    pub fn look(&mut self, actor: u8, c: u8, now: u64) -> Answer
+    pub(crate) fn look(&mut self, actor: u8, c: u8, now: u64) -> Answer
         requires { IsSet self.old actor now (acts.Look c) }
         ensures { Acts self.old self.new actor now (acts.Look c) result }
     {
@@ -52,7 +52,7 @@ impl<K: Cluster> Machine<K> {
     }
 
     /// Tells where the hand's thread should enter.
-    pub fn aim(&mut self, actor: u8, now: u64) -> Answer
+    pub(crate) fn aim(&mut self, actor: u8, now: u64) -> Answer
         requires { IsSet self.old actor now acts.Aim }
         ensures { Acts self.old self.new actor now acts.Aim result }
     {
@@ -70,7 +70,7 @@ impl<K: Cluster> Machine<K> {
     }
 
     /// Charges the hand's thread for running so many microseconds.
-    pub fn ran(&mut self, actor: u8, us: u32, now: u64) -> Answer
+    pub(crate) fn ran(&mut self, actor: u8, us: u32, now: u64) -> Answer
         requires { IsSet self.old actor now (acts.Ran us) }
         ensures { Acts self.old self.new actor now (acts.Ran us) result }
     {
