@@ -23,7 +23,9 @@ impl<const K: usize> Model for Heap<K> {
 
 impl<const K: usize> Heap<K> {
     ghost use Rattle.link_arena.specs.Arena.{IsLive, value_at};
-    ghost use Rattle.pairing_heap.specs.Heap.{Stands, Lacks, Holds, AddsPair, TakesPair, RekeysPair, pairs_at, IsLeast, SameSlots, ClearsSlots};
+    ghost use Rattle.pairing_heap.specs.Tree.{leaf, node};
+    ghost use Rattle.pairing_heap.specs.Melding.{melded, taken_out};
+    ghost use Rattle.pairing_heap.specs.Heap.{keys_at, Stands, Lacks, Holds, AddsPair, TakesPair, RekeysPair, tree_at, pairs_at, IsLeast, SameSlots, ClearsSlots};
 
     /// A heap with no entry.
     pub fn new() -> Heap<K>
@@ -85,6 +87,7 @@ impl<const K: usize> Heap<K> {
         requires live { IsLive arena.old slot }
         requires lacks { Lacks K V.key_of arena.old self.old slot }
         ensures adds { AddsPair K V.key_of V.Key.precedes arena.old arena.new self.old self.new slot }
+        ensures melds { (key : V.Key) → keys_at V.key_of arena.old slot ≡ Some key → tree_at K V.key_of arena.new self.new ≡ melded V.Key.precedes (tree_at K V.key_of arena.old self.old) (node key slot leaf leaf) }
         ensures ticks { steps.old ≤ steps.new }
         ensures most { steps.new ≤ steps.old + 1 }
         ensures first { self.old ≡ None → steps.new ≡ steps.old }
@@ -93,7 +96,7 @@ impl<const K: usize> Heap<K> {
     }
 
     /// Takes out what `peek` gives, whose links lead nowhere then. The root's children are melded in pairs from left to
-    /// right, and the pairs then into one.
+    /// right, and the pairs then from right to left into one.
     pub fn pop<V: Keyed<K>, L: Ledger>(
         &mut self,
         arena: &mut Arena<V>,
@@ -104,6 +107,7 @@ impl<const K: usize> Heap<K> {
         requires { Stands K V.key_of V.Key.precedes arena.old self.old }
         ensures first { result ≡ self.old }
         ensures takes { IfSome result (λ slot. TakesPair K V.key_of V.Key.precedes arena.old arena.new self.old self.new slot) }
+        ensures pairs { IfSome result (λ slot. tree_at K V.key_of arena.new self.new ≡ taken_out V.Key.precedes slot (tree_at K V.key_of arena.old self.old)) }
         ensures heap { IfNone result (self.new ≡ self.old) }
         ensures arena { IfNone result (arena.new ≡ arena.old) }
         ensures ticks { steps.old ≤ steps.new }
@@ -116,7 +120,8 @@ impl<const K: usize> Heap<K> {
         Some(root)
     }
 
-    /// Takes a slot out, from anywhere, by its links, which lead nowhere then.
+    /// Takes a slot out, from anywhere, by its links, which lead nowhere then. Its children are melded in pairs from left to
+    /// right, the pairs then from right to left into one, and that with the rest of the heap.
     pub fn remove<V: Keyed<K>, L: Ledger>(
         &mut self,
         arena: &mut Arena<V>,
@@ -128,6 +133,7 @@ impl<const K: usize> Heap<K> {
         requires stands { Stands K V.key_of V.Key.precedes arena.old self.old }
         requires held { Holds K V.key_of arena.old self.old slot }
         ensures takes { TakesPair K V.key_of V.Key.precedes arena.old arena.new self.old self.new slot }
+        ensures pairs { tree_at K V.key_of arena.new self.new ≡ taken_out V.Key.precedes slot (tree_at K V.key_of arena.old self.old) }
         ensures ticks { steps.old ≤ steps.new }
         ensures most { steps.new ≤ steps.old + length (pairs_at K V.key_of arena.old self.old) }
     {
@@ -159,6 +165,7 @@ impl<const K: usize> Heap<K> {
         requires held { Holds K V.key_of arena.old self.old slot }
         ensures value { value_at arena.old slot ≡ Some result }
         ensures rekeys { RekeysPair K V.key_of V.Key.precedes arena.old arena.new self.old self.new slot v }
+        ensures melds { tree_at K V.key_of arena.new self.new ≡ melded V.Key.precedes (taken_out V.Key.precedes slot (tree_at K V.key_of arena.old self.old)) (node (V.key_of v) slot leaf leaf) }
         ensures ticks { steps.old ≤ steps.new }
         ensures most { steps.new ≤ steps.old + length (pairs_at K V.key_of arena.old self.old) + 1 }
     {
