@@ -10,7 +10,7 @@ use Rattle.pairing_heap.proofs.Counts.{one_other, slot_count-root}
 use Rattle.pairing_heap.proofs.Size.{none_or_some}
 use Rattle.pairing_heap.proofs.Melding.{head_in}
 
-different : (here slot : ℕ) → here ≢ slot → (here == slot) ≡ false
+pub different : (here slot : ℕ) → here ≢ slot → (here == slot) ≡ false
 different here slot differs = by_case (here == slot) refl
   where
     by_case : (t : Bool) → (here == slot) ≡ t → t ≡ false
@@ -114,7 +114,7 @@ module _ {X : Type 0} (precedes : X → X → Bool) (keys : ℕ → Option X) (l
         ]
       ]
 
-  first_prev : (slot : ℕ) (before to : Option ℕ) (tree : Tree X) → Joined keys links before to tree → to ≡ Some slot → (links slot).prev ≡ before
+  pub first_prev : (slot : ℕ) (before to : Option ℕ) (tree : Tree X) → Joined keys links before to tree → to ≡ Some slot → (links slot).prev ≡ before
   first_prev slot before to leaf inside is = let e = sym inside ∙ is in absurd (cc)
   first_prev slot before to (node other_key other others more) inside is =
       let e = sym inside.0 ∙ is in

@@ -1,7 +1,8 @@
-ghost use Rattle.std.specs.Prelude.{◌≡◌, ℕ, ◌+◌, ◌<◌, ◌≤◌, Some, None, IsTrue, ◌↔◌, IsSome, IsNone, IfSome, IfNone, [], length};
+ghost use Rattle.std.specs.Prelude.{◌≡◌, ℕ, ◌+◌, ◌≤◌, Some, None, IsTrue, ◌↔◌, IsNone, IfSome, IfNone, List, ◌∷◌, ◌++◌, length, vec_len, vec_capacity};
 
 use crate::clear::clear_from;
 use crate::meld::{add_root, take_root, take_slot};
+use crate::walk::{list_slots, next_slot};
 use crate::{Counted, Keyed, Steps};
 use link_arena::Arena;
 use std::marker::Model;
@@ -25,7 +26,7 @@ impl<const K: usize> Heap<K> {
     ghost use Rattle.link_arena.specs.Arena.{IsLive, value_at};
     ghost use Rattle.pairing_heap.specs.Tree.{leaf, node};
     ghost use Rattle.pairing_heap.specs.Melding.{melded, taken_out};
-    ghost use Rattle.pairing_heap.specs.Heap.{keys_at, Stands, Lacks, Holds, AddsPair, TakesPair, RekeysPair, tree_at, pairs_at, IsLeast, SameSlots, ClearsSlots};
+    ghost use Rattle.pairing_heap.specs.Heap.{keys_at, Stands, Lacks, Holds, AddsPair, TakesPair, RekeysPair, tree_at, pairs_at, ClearsSlots, slots_at, first_slot};
 
     /// A heap with no entry.
     pub fn new() -> Heap<K>
@@ -41,37 +42,12 @@ impl<const K: usize> Heap<K> {
         self.root.is_none()
     }
 
-    /// The slot that no other precedes, as `peek_is_least` says.
+    /// The slot that no other precedes, as the law `first_is_least` says.
     pub fn peek(&self) -> Option<u32>
         ensures { result ≡ self.now }
     {
         self.root
     }
-
-    /// Makes no step: no pair of the heap precedes that of the slot that `peek` gives, and there is none exactly where
-    /// the heap is empty.
-    pub fn peek_is_least<V: Keyed<K>>(&self, _arena: &Arena<V>)
-        requires { Stands K V.key_of V.Key.precedes _arena.now self.now }
-        ensures none { IsNone self.now ↔ (pairs_at K V.key_of _arena.now self.now ≡ []) }
-        ensures held { IfSome self.now (λ slot. Holds K V.key_of _arena.now self.now slot) }
-        ensures least { IfSome self.now (λ slot. IsLeast K V.key_of V.Key.precedes _arena.now self.now slot) }
-    {}
-
-    /// Makes no step: the empty heap stands in every arena.
-    pub fn stands_when_empty<V: Keyed<K>>(&self, _arena: &Arena<V>)
-        requires set { K < 2 }
-        requires empty { self.now ≡ None }
-        ensures { Stands K V.key_of V.Key.precedes _arena.now self.now }
-    {}
-
-    /// Makes no step: a heap whose slots have the same keys and links in two arenas stands in the second where it stands
-    /// in the first.
-    pub fn stands_where_slots_stay<V: Keyed<K>>(&self, _before: &Arena<V>, _after: &Arena<V>)
-        requires stands { Stands K V.key_of V.Key.precedes _before.now self.now }
-        requires same { SameSlots K V.key_of _before.now _after.now self.now }
-        ensures stands { Stands K V.key_of V.Key.precedes _after.now self.now }
-        ensures pairs { pairs_at K V.key_of _after.now self.now ≡ pairs_at K V.key_of _before.now self.now }
-    {}
 
     /// Adds a slot, which holds a value and is in no heap of the set, with one comparison at most and none where the heap
     /// is empty.
@@ -138,6 +114,27 @@ impl<const K: usize> Heap<K> {
         ensures most { steps.new ≤ steps.old + length (pairs_at K V.key_of arena.old self.old) }
     {
         self.root = take_slot::<V, K, L>(arena, self.root, slot, steps);
+    }
+
+    /// The slot after one of the heap's in the order of a walk, which begins with what `peek` gives and comes to each slot
+    /// once. Nothing is compared or written, and a whole walk looks at each slot three times at most.
+    pub fn next<V: Keyed<K>>(&self, arena: &Arena<V>, slot: u32) -> Option<u32>
+        requires stands { Stands K V.key_of V.Key.precedes arena.now self.now }
+        requires held { Holds K V.key_of arena.now self.now slot }
+        ensures { (before after : List ℕ) → slots_at K V.key_of arena.now self.now ≡ before ++ (slot ∷ after) → result ≡ first_slot after }
+    {
+        next_slot::<V, K>(arena, self.root, slot)
+    }
+
+    /// Puts all slots of the heap, each once, at the end of a list that has room for them, in the order of a walk. Nothing
+    /// is compared, no memory is taken, and each slot is looked at four times at most.
+    pub fn list<V: Keyed<K>>(&self, arena: &Arena<V>, slots: &mut Vec<u32>)
+        requires stands { Stands K V.key_of V.Key.precedes arena.now self.now }
+        requires room { vec_len slots.old + length (pairs_at K V.key_of arena.now self.now) ≤ vec_capacity slots.old }
+        ensures lists { slots.new.items ≡ slots.old.items ++ slots_at K V.key_of arena.now self.now }
+        ensures room { vec_capacity slots.new ≡ vec_capacity slots.old }
+    {
+        list_slots::<V, K>(arena, self.root, slots);
     }
 
     /// Takes all slots out, whose links lead nowhere then. Nothing is compared, and each slot is looked at twice at most.
