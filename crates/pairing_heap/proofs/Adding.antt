@@ -3,13 +3,14 @@ use Rattle.std.proofs.Common.{◌≡◌, ◌≢◌, ℕ, ◌+◌, ◌<◌, ◌�
 use Rattle.std.specs.Prelude.{◌==◌}
 use Rattle.link_arena.specs.Arena.{Arena, value_at, links_at, IsLive, unlinked, Relinks}
 use Rattle.pairing_heap.specs.Tree.{Tree, leaf, tally, slot_count, IsHeap}
+use Rattle.pairing_heap.specs.Melding.{melded}
 use Rattle.pairing_heap.specs.Heap.{times_of, key_of_value, keys_at, tree_at, pairs_at, Stands, Lacks, LinksOnly, AddsPair}
 use Rattle.pairing_heap.specs.Chain.{solo, IsRoot, CanMeld, Melds}
 use Rattle.pairing_heap.proofs.Counts.{one, one_most, once_beside, slot_count-root}
 use Rattle.pairing_heap.proofs.Frame.{IsRoot-kept}
 use Rattle.pairing_heap.proofs.Passes.{Kept-apart}
 use Rattle.pairing_heap.proofs.Pairing.{LinksOnly-relinks, LinksOnly-then}
-use Rattle.pairing_heap.proofs.Standing.{HasRoot, has_root, heap_from_root, no_root, Stands-heap, count_by-heap, count_by-stands, count_by-more, OthersStay-links}
+use Rattle.pairing_heap.proofs.Standing.{HasRoot, has_root, heap_from_root, no_root, Stands-heap, tree_at-heap, count_by-heap, count_by-stands, count_by-more, OthersStay-links}
 
 -- a live slot has a key
 pub key_from_live : {V X : Type 0} (key_of : V → X) (value : Option V) → is_some value ≡ true → (key : X) × (key_of_value key_of value ≡ Some key)
@@ -40,6 +41,15 @@ module _ {V X : Type 0} (k : ℕ) (key_of : V → X) (precedes : X → X → Boo
   pub lone_root : (old new : Arena V) (slot : ℕ) (key : X) → keys_at key_of old slot ≡ Some key → Relinks old new k slot unlinked → IsRoot precedes (keys_at key_of new) (links_at new k) slot key leaf
   lone_root old new slot key keyed relinks =
       record { keyed = ap (key_of_value key_of) (relinks.values slot) ∙ keyed; joined = ap (λ l. l.child) relinks.here; ordered = tt }
+
+  -- alone it is the heap
+  pub Adds-first-tree : (old new : Arena V) (heap : Option ℕ) (slot : ℕ) → heap ≡ None → Stands k key_of precedes old heap → Relinks old new k slot unlinked → (key : X) → keys_at key_of old slot ≡ Some key → tree_at k key_of new (Some slot) ≡ melded precedes (tree_at k key_of old heap) (solo key slot leaf)
+  Adds-first-tree old new heap slot empty stands relinks key keyed =
+      let rooted = lone_root old new slot key keyed relinks in
+      let none = no_root precedes (keys_at key_of old) (links_at old k) (tree_at k key_of old heap) (subst (λ (r : Option ℕ). IsHeap precedes (keys_at key_of old) (links_at old k) r (tree_at k key_of old heap)) empty stands.heap) in
+      tree_at-heap k key_of precedes new (Some slot) (solo key slot leaf)
+      (heap_from_root precedes (keys_at key_of new) (links_at new k) slot key leaf rooted (ap (λ l. l.next) relinks.here) (ap (λ l. l.prev) relinks.here) (λ other. omega (arith, one_most slot other)))
+      ∙ ap (λ t. melded precedes t (solo key slot leaf)) (sym none)
 
   -- a slot is pushed into an empty heap
   pub Adds-first : (old new : Arena V) (heap : Option ℕ) (slot : ℕ) → heap ≡ None → Stands k key_of precedes old heap → IsLive old slot → Relinks old new k slot unlinked → new.spare ≡ old.spare → AddsPair k key_of precedes old new heap (Some slot) slot
@@ -107,9 +117,9 @@ module _ {V X : Type 0} (k : ℕ) (key_of : V → X) (precedes : X → X → Boo
         once = pushes.once;
       }
 
-  -- a slot was melded with the root
-  pub Adds-melded : (old mid new : Arena V) (root slot later : ℕ) (set : k < 2) (pushes : Pushes old mid root slot) → Relinks old mid k slot unlinked → Melds k key_of precedes mid new root slot later (CanMeld-push old mid root slot set pushes) → Stands k key_of precedes old (Some root) → AddsPair k key_of precedes old new (Some root) (Some later) slot
-  Adds-melded old mid new root slot later set pushes relinks melds stands =
+  -- the heap that a slot and the root became
+  heap_pushed : (old mid new : Arena V) (root slot later : ℕ) (set : k < 2) (pushes : Pushes old mid root slot) → Relinks old mid k slot unlinked → (melds : Melds k key_of precedes mid new root slot later (CanMeld-push old mid root slot set pushes)) → IsHeap precedes (keys_at key_of new) (links_at new k) (Some later) (solo melds.key later melds.children)
+  heap_pushed old mid new root slot later set pushes relinks melds =
       let before = pushes.before in
       let next : (links_at mid k later).next ≡ None = elim melds.which [
         | inl is ↦ ap (λ s. (links_at mid k s).next) is ∙ ap (λ l. l.next) (relinks.elsewhere root pushes.differs) ∙ before.next
@@ -119,8 +129,24 @@ module _ {V X : Type 0} (k : ℕ) (key_of : V → X) (precedes : X → X → Boo
         | inl is ↦ ap (λ s. (links_at mid k s).prev) is ∙ ap (λ l. l.prev) (relinks.elsewhere root pushes.differs) ∙ before.prev
         | inr is ↦ ap (λ s. (links_at mid k s).prev) is ∙ ap (λ l. l.prev) relinks.here
       ] in
-      let heap = heap_from_root precedes (keys_at key_of new) (links_at new k) later melds.key melds.children melds.rooted (melds.next ∙ next) (melds.prev ∙ prev)
-      (λ other. omega (arith, pushes.once other, melds.nodes (λ pair. pair.1 == other))) in
+      heap_from_root precedes (keys_at key_of new) (links_at new k) later melds.key melds.children melds.rooted (melds.next ∙ next) (melds.prev ∙ prev)
+      (λ other. omega (arith, pushes.once other, melds.nodes (λ pair. pair.1 == other)))
+
+  -- which is their heap of two
+  pub Adds-melded-tree : (old mid new : Arena V) (root slot later : ℕ) (set : k < 2) (pushes : Pushes old mid root slot) → Relinks old mid k slot unlinked → Melds k key_of precedes mid new root slot later (CanMeld-push old mid root slot set pushes) → (key : X) → keys_at key_of old slot ≡ Some key → tree_at k key_of new (Some later) ≡ melded precedes (tree_at k key_of old (Some root)) (solo key slot leaf)
+  Adds-melded-tree old mid new root slot later set pushes relinks melds key keyed =
+      let e = sym pushes.keyed ∙ keyed in
+      let same : pushes.key ≡ key = cc in
+      tree_at-heap k key_of precedes new (Some later) (solo melds.key later melds.children) (heap_pushed old mid new root slot later set pushes relinks melds)
+      ∙ melds.becomes
+      ∙ ap (λ t. melded precedes t (solo pushes.key slot leaf)) (sym pushes.before.is)
+      ∙ ap (λ x. melded precedes (tree_at k key_of old (Some root)) (solo x slot leaf)) same
+
+  -- a slot was melded with the root
+  pub Adds-melded : (old mid new : Arena V) (root slot later : ℕ) (set : k < 2) (pushes : Pushes old mid root slot) → Relinks old mid k slot unlinked → Melds k key_of precedes mid new root slot later (CanMeld-push old mid root slot set pushes) → Stands k key_of precedes old (Some root) → AddsPair k key_of precedes old new (Some root) (Some later) slot
+  Adds-melded old mid new root slot later set pushes relinks melds stands =
+      let before = pushes.before in
+      let heap = heap_pushed old mid new root slot later set pushes relinks melds in
       Adds-links old new (Some root) later slot pushes.key (solo melds.key later melds.children) set heap pushes.keyed
       (λ test. omega (arith, melds.nodes test, count_by-stands k key_of precedes old (Some root) test, ap (tally test) before.is))
       (LinksOnly-then k old mid new (one slot) (λ other. slot_count other (solo before.key root before.children) + slot_count other (solo pushes.key slot leaf)) (λ other. slot_count other (solo melds.key later melds.children)) pushes.written melds.kept

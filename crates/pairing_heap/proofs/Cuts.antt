@@ -3,12 +3,13 @@ use Rattle.std.proofs.Common.{◌≡◌, ◌≢◌, ℕ, ◌+◌, ◌<◌, ◌�
 use Rattle.std.specs.Prelude.{◌==◌}
 use Rattle.link_arena.specs.declared.arena.Links.{Links}
 use Rattle.pairing_heap.specs.Tree.{Tree, leaf, node, tally, slot_count, Joined, Ordered}
+use Rattle.pairing_heap.specs.Melding.{first_of, children_of, without}
 use Rattle.pairing_heap.specs.Chain.{IsRoot, Unhooks}
 use Rattle.pairing_heap.proofs.Counts.{one_other, slot_count-root, apart}
 use Rattle.pairing_heap.proofs.Size.{none_or_some}
 use Rattle.pairing_heap.proofs.Frame.{Kept, Joined-kept, Joined-rehung}
 use Rattle.pairing_heap.proofs.Melding.{head_in}
-use Rattle.pairing_heap.proofs.Cutting.{names_or_not, open_at, pred_in, next_in}
+use Rattle.pairing_heap.proofs.Cutting.{without-here, children-here, without-other, children-other, without-absent, children-absent, first_of-alone, names_or_not, open_at, pred_in, next_in}
 
 module _ {X : Type 0} (precedes : X → X → Bool) (keys : ℕ → Option X) (links later : ℕ → Links) (slot pred : ℕ) (unhooks : Unhooks links later slot pred) (prev_is : (links slot).prev ≡ Some pred) where
   -- the tree without the slot and what is below it
@@ -16,6 +17,8 @@ module _ {X : Type 0} (precedes : X → X → Bool) (keys : ℕ → Option X) (l
     pub key : X
     pub below : Tree X
     pub rest : Tree X
+    pub gone : without slot tree ≡ rest
+    pub children : children_of slot tree ≡ below
     pub rooted : IsRoot precedes keys links slot key below
     pub joined : Joined keys later prev at rest
     pub nodes : (test : X × ℕ → Bool) → tally test tree ≡ (cond (test (key, slot)) 1 0 + tally test below) + tally test rest
@@ -48,6 +51,8 @@ module _ {X : Type 0} (precedes : X → X → Bool) (keys : ℕ → Option X) (l
         key = opened.key;
         below = opened.children;
         rest = opened.rest;
+        gone = ap (without slot) opened.is ∙ without-here opened.key slot opened.children opened.rest;
+        children = ap (children_of slot) opened.is ∙ children-here opened.key slot opened.children opened.rest;
         rooted = opened.rooted;
         joined = subst (λ (at : Option ℕ). Joined keys later (Some here) at opened.rest) (sym now_is) rehung;
         nodes = λ test. omega (arith, opened.nodes test);
@@ -58,12 +63,18 @@ module _ {X : Type 0} (precedes : X → X → Bool) (keys : ℕ → Option X) (l
       }
 
   -- the slot is among the children
-  in_children : (prev at : Option ℕ) (top key : X) (here : ℕ) (children rest : Tree X) → at ≡ Some here → keys here ≡ Some key → (later here).prev ≡ prev → Joined keys later (Some here) (later here).next rest → Ordered precedes top (node key here children rest) → Cut (Some here) (later here).child key children → Cut prev at top (node key here children rest)
-  in_children prev at top key here children rest is keyed before beside ordered cut =
+  in_children : (prev at : Option ℕ) (top key : X) (here : ℕ) (children rest : Tree X) → at ≡ Some here → keys here ≡ Some key → (later here).prev ≡ prev → Joined keys later (Some here) (later here).next rest → Ordered precedes top (node key here children rest) → here ≢ slot → slot_count slot rest ≡ 0 → Cut (Some here) (later here).child key children → Cut prev at top (node key here children rest)
+  in_children prev at top key here children rest is keyed before beside ordered differs none cut =
       record {
         key = cut.key;
         below = cut.below;
         rest = node key here cut.rest rest;
+        gone = without-other key here slot children rest differs
+            ∙ ap (λ t. node key here t (without slot rest)) cut.gone
+            ∙ ap (λ t. node key here cut.rest t) (without-absent slot rest none);
+        children = children-other key here slot children rest differs
+            ∙ ap (λ t. first_of (children_of slot children) t) (children-absent slot rest none)
+            ∙ first_of-alone (children_of slot children) ∙ cut.children;
         rooted = cut.rooted;
         joined = (is, keyed, before, cut.joined, beside);
         nodes = λ test. omega (arith, cut.nodes test);
@@ -72,12 +83,18 @@ module _ {X : Type 0} (precedes : X → X → Bool) (keys : ℕ → Option X) (l
       }
 
   -- the slot is among the siblings after it
-  in_rest : (prev at : Option ℕ) (top key : X) (here : ℕ) (children rest : Tree X) → at ≡ Some here → keys here ≡ Some key → (later here).prev ≡ prev → Joined keys later (Some here) (later here).child children → Ordered precedes top (node key here children rest) → Cut (Some here) (later here).next top rest → Cut prev at top (node key here children rest)
-  in_rest prev at top key here children rest is keyed before below ordered cut =
+  in_rest : (prev at : Option ℕ) (top key : X) (here : ℕ) (children rest : Tree X) → at ≡ Some here → keys here ≡ Some key → (later here).prev ≡ prev → Joined keys later (Some here) (later here).child children → Ordered precedes top (node key here children rest) → here ≢ slot → slot_count slot children ≡ 0 → Cut (Some here) (later here).next top rest → Cut prev at top (node key here children rest)
+  in_rest prev at top key here children rest is keyed before below ordered differs none cut =
       record {
         key = cut.key;
         below = cut.below;
         rest = node key here children cut.rest;
+        gone = without-other key here slot children rest differs
+            ∙ ap (λ t. node key here t (without slot rest)) (without-absent slot children none)
+            ∙ ap (λ t. node key here children t) cut.gone;
+        children = children-other key here slot children rest differs
+            ∙ ap (λ t. first_of t (children_of slot rest)) (children-absent slot children none)
+            ∙ cut.children;
         rooted = cut.rooted;
         joined = (is, keyed, before, below, cut.joined);
         nodes = λ test. omega (arith, cut.nodes test);
@@ -139,6 +156,7 @@ module _ {X : Type 0} (precedes : X → X → Bool) (keys : ℕ → Option X) (l
       let root = slot_count-root key here children rest in
       let no_here : slot_count here rest ≡ 0 = omega (arith, once here, root) in
       let no_slot : slot_count slot children ≡ 0 = omega (arith, once slot) in
+      let differs : here ≢ slot = λ same. omega (arith, no_here, some, ap (λ s. slot_count s rest) same) in
       let after_here : (after : ℕ) → (links slot).next ≡ Some after → 0 < slot_count after rest =
       λ after is. next_in precedes keys links (Some here) (links here).next slot after rest joined.4 some is in
       let no_after : (after : ℕ) → (links slot).next ≡ Some after → slot_count after children ≡ 0 =
@@ -150,7 +168,7 @@ module _ {X : Type 0} (precedes : X → X → Bool) (keys : ℕ → Option X) (l
             let write = written_next here same (λ first. omega (arith, no_slot, head_in keys links (Some here) (links here).child children slot joined.3 first)) in
             let kept = untouched children (omega (arith, once here, root, ap (λ s. slot_count s children) same)) no_after in
             let cut = cut_first here top (links here).next (later here).next rest (λ other. omega (arith, once other)) no_here joined.4 ordered.2 is (ap (λ l. l.next) write) in
-            in_rest prev at top key here children rest joined.0 joined.1 (ap (λ l. l.prev) write ∙ joined.2) (kept_child (Some here) (links here).child (later here).child children (ap (λ l. l.child) write) kept joined.3) ordered cut
+            in_rest prev at top key here children rest joined.0 joined.1 (ap (λ l. l.prev) write ∙ joined.2) (kept_child (Some here) (links here).child (later here).child children (ap (λ l. l.child) write) kept joined.3) ordered differs no_slot cut
         | inr not ↦
             let found = pred_in precedes keys links (Some here) (links here).next slot rest (λ other. omega (arith, once other)) joined.4 some not in
             let same = pred_here found.0 found.1 in
@@ -159,7 +177,7 @@ module _ {X : Type 0} (precedes : X → X → Bool) (keys : ℕ → Option X) (l
             let kept = untouched children (omega (arith, once pred, deep)) no_after in
             let cut = deeper not in
             let moved = subst (λ (to : Option ℕ). Cut (Some here) to top rest) (ap (λ l. l.next) (sym stays)) cut in
-            in_rest prev at top key here children rest joined.0 joined.1 (ap (λ l. l.prev) stays ∙ joined.2) (kept_child (Some here) (links here).child (later here).child children (ap (λ l. l.child) stays) kept joined.3) ordered moved
+            in_rest prev at top key here children rest joined.0 joined.1 (ap (λ l. l.prev) stays ∙ joined.2) (kept_child (Some here) (links here).child (later here).child children (ap (λ l. l.child) stays) kept joined.3) ordered differs no_slot moved
       ]
 
   -- a slot goes out of a tree that does not begin with it
@@ -175,5 +193,5 @@ module _ {X : Type 0} (precedes : X → X → Bool) (keys : ℕ → Option X) (l
         | inr more ↦
             let below = cut_below prev at key here children rest once more joined ordered.1
             (λ not. cut_in (Some here) (links here).child key children (λ other. omega (arith, once other)) more joined.3 ordered.1 not) in
-            in_children prev at top key here children rest joined.0 joined.1 (below.prev ∙ joined.2) (kept_child (Some here) (links here).next (later here).next rest below.next below.kept joined.4) ordered below.cut
+            in_children prev at top key here children rest joined.0 joined.1 (below.prev ∙ joined.2) (kept_child (Some here) (links here).next (later here).next rest below.next below.kept joined.4) ordered differs (omega (arith, once slot, more)) below.cut
       ]

@@ -1,12 +1,63 @@
 -- What a tree is once a node is taken out of its middle.
-use Rattle.std.proofs.Common.{◌≡◌, ◌≢◌, ◌⊎◌, ℕ, ◌+◌, ◌<◌, ◌≤◌, Bool, Option, Some, None, cond, refl, sym, ap, subst, ◌∙◌, inl, inr, arith}
-use Rattle.std.proofs.lemmas.Bool.{cases_eq}
+use Rattle.std.proofs.Common.{◌≡◌, ◌≢◌, ◌⊎◌, ℕ, ◌+◌, ◌<◌, ◌≤◌, Bool, true, false, Option, Some, None, cond, refl, sym, ap, subst, ◌∙◌, inl, inr, arith}
+use Rattle.std.proofs.lemmas.Bool.{cases_eq, eq-eqb, eqb-true}
+use Rattle.std.specs.Prelude.{◌==◌}
 use Rattle.link_arena.specs.declared.arena.Links.{Links}
 use Rattle.pairing_heap.specs.Tree.{Tree, leaf, node, tally, slot_count, Joined, Ordered}
+use Rattle.pairing_heap.specs.Melding.{first_of, children_of, without}
 use Rattle.pairing_heap.specs.Chain.{IsRoot}
 use Rattle.pairing_heap.proofs.Counts.{one_other, slot_count-root}
 use Rattle.pairing_heap.proofs.Size.{none_or_some}
 use Rattle.pairing_heap.proofs.Melding.{head_in}
+
+pub different : (here slot : ℕ) → here ≢ slot → (here == slot) ≡ false
+different here slot differs = by_case (here == slot) refl
+  where
+    by_case : (t : Bool) → (here == slot) ≡ t → t ≡ false
+    by_case true is = absurd (differs (eqb-true here slot is))
+    by_case false is = refl
+
+module _ {X : Type 0} where
+  -- the first node goes
+  pub without-here : (key : X) (slot : ℕ) (children rest : Tree X) → without slot (node key slot children rest) ≡ rest
+  without-here key slot children rest =
+      ap (λ t. cond t rest (node key slot (without slot children) (without slot rest))) (eq-eqb slot slot refl)
+
+  pub children-here : (key : X) (slot : ℕ) (children rest : Tree X) → children_of slot (node key slot children rest) ≡ children
+  children-here key slot children rest =
+      ap (λ t. cond t children (first_of (children_of slot children) (children_of slot rest))) (eq-eqb slot slot refl)
+
+  -- another first node stays
+  pub without-other : (key : X) (here slot : ℕ) (children rest : Tree X) → here ≢ slot → without slot (node key here children rest) ≡ node key here (without slot children) (without slot rest)
+  without-other key here slot children rest differs =
+      ap (λ t. cond t rest (node key here (without slot children) (without slot rest))) (different here slot differs)
+
+  pub children-other : (key : X) (here slot : ℕ) (children rest : Tree X) → here ≢ slot → children_of slot (node key here children rest) ≡ first_of (children_of slot children) (children_of slot rest)
+  children-other key here slot children rest differs =
+      ap (λ t. cond t children (first_of (children_of slot children) (children_of slot rest))) (different here slot differs)
+
+  not_first : (key : X) (here slot : ℕ) (children rest : Tree X) → slot_count slot (node key here children rest) ≡ 0 → here ≢ slot
+  not_first key here slot children rest none same =
+      omega (arith, slot_count-root key here children rest, none, ap (λ s. slot_count s (node key here children rest)) same)
+
+  -- a tree that lacks the slot stays, and there are no children of the slot
+  pub without-absent : (slot : ℕ) (tree : Tree X) → slot_count slot tree ≡ 0 → without slot tree ≡ tree
+  without-absent slot leaf none = refl
+  without-absent slot (node key here children rest) none =
+      without-other key here slot children rest (not_first key here slot children rest none)
+      ∙ ap (λ t. node key here t (without slot rest)) (without-absent slot children (omega (arith, none)))
+      ∙ ap (λ t. node key here children t) (without-absent slot rest (omega (arith, none)))
+
+  pub children-absent : (slot : ℕ) (tree : Tree X) → slot_count slot tree ≡ 0 → children_of slot tree ≡ leaf
+  children-absent slot leaf none = refl
+  children-absent slot (node key here children rest) none =
+      children-other key here slot children rest (not_first key here slot children rest none)
+      ∙ ap (λ t. first_of t (children_of slot rest)) (children-absent slot children (omega (arith, none)))
+      ∙ children-absent slot rest (omega (arith, none))
+
+  pub first_of-alone : (tree : Tree X) → first_of tree leaf ≡ tree
+  first_of-alone leaf = refl
+  first_of-alone (node key slot children rest) = refl
 
 -- a place names a slot, or not
 pub names_or_not : (at : Option ℕ) (slot : ℕ) → (at ≡ Some slot) ⊎ (at ≢ Some slot)
@@ -23,6 +74,7 @@ module _ {X : Type 0} (precedes : X → X → Bool) (keys : ℕ → Option X) (l
     pub key : X
     pub children : Tree X
     pub rest : Tree X
+    pub is : tree ≡ node key slot children rest
     pub rooted : IsRoot precedes keys links slot key children
     pub before : (links slot).prev ≡ prev
     pub beside : Joined keys links (Some slot) (links slot).next rest
@@ -35,6 +87,7 @@ module _ {X : Type 0} (precedes : X → X → Bool) (keys : ℕ → Option X) (l
         key = key;
         children = children;
         rest = rest;
+        is = refl;
         rooted = record { keyed = keyed; joined = below; ordered = ordered.1 };
         before = before;
         beside = beside;
@@ -61,7 +114,7 @@ module _ {X : Type 0} (precedes : X → X → Bool) (keys : ℕ → Option X) (l
         ]
       ]
 
-  first_prev : (slot : ℕ) (before to : Option ℕ) (tree : Tree X) → Joined keys links before to tree → to ≡ Some slot → (links slot).prev ≡ before
+  pub first_prev : (slot : ℕ) (before to : Option ℕ) (tree : Tree X) → Joined keys links before to tree → to ≡ Some slot → (links slot).prev ≡ before
   first_prev slot before to leaf inside is = let e = sym inside ∙ is in absurd (cc)
   first_prev slot before to (node other_key other others more) inside is =
       let e = sym inside.0 ∙ is in

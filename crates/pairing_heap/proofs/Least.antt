@@ -1,13 +1,12 @@
 -- The first slot of a heap is its least.
-use Rattle.std.proofs.Common.{◌≡◌, ℕ, ◌<◌, Bool, true, false, [], ◌++◌, Option, Some, None, refl, sym, ap, subst, ◌∙◌, arith, inl, inr, rules, All, IfSome, IsNone, ◌↔◌}
-use Rattle.std.proofs.lemmas.List.Elements.{All-append, All-cons}
+use Rattle.std.proofs.Common.{◌≡◌, ℕ, ◌<◌, Bool, true, false, [], Option, Some, None, refl, sym, ap, ◌∙◌, arith, inl, inr, IfSome, IsNone, ◌↔◌}
 use Rattle.std.specs.Prelude.{◌==◌}
 use Rattle.std.proofs.lemmas.Bool.{cases_eq}
 use Rattle.link_arena.specs.declared.arena.Links.{Links}
 use Rattle.link_arena.specs.Arena.{Arena, links_at}
 use Rattle.pairing_heap.specs.Order.{IsStrictOrder}
 use Rattle.pairing_heap.specs.Tree.{Tree, leaf, node, pairs, slot_count, Joined, Ordered}
-use Rattle.pairing_heap.specs.Heap.{keys_at, tree_at, pairs_at, Stands, Holds, IsLeast}
+use Rattle.pairing_heap.specs.Heap.{keys_at, tree_at, pairs_at, Stands, Holds}
 use Rattle.pairing_heap.specs.Chain.{solo}
 use Rattle.pairing_heap.specs.Laws.{IsFirst}
 use Rattle.pairing_heap.proofs.Counts.{one_other, slot_count-root}
@@ -27,20 +26,6 @@ not_before {X} precedes order a b c ab bc = first (precedes a c) refl
     first false is = is
     first true is = absurd (second (precedes b a) refl is)
 
-module _ {X : Type 0} (precedes : X → X → Bool) (order : IsStrictOrder precedes) (top : X) where
-  no_pair : All (λ (pair : X × ℕ). precedes pair.0 top ≡ false) []
-  no_pair = search rules
-
-  -- below a key that does not precede the first one, no key precedes it
-  pub All-ordered : (key : X) (tree : Tree X) → precedes key top ≡ false → Ordered precedes key tree → All (λ (pair : X × ℕ). precedes pair.0 top ≡ false) (pairs tree)
-  All-ordered key leaf behind ordered = no_pair
-  All-ordered key (node here slot children rest) behind ordered =
-      let next = not_before precedes order here key top ordered.0 behind in
-      All-cons (λ (pair : X × ℕ). precedes pair.0 top ≡ false) (here, slot) (pairs children ++ pairs rest) next
-      (All-append (λ (pair : X × ℕ). precedes pair.0 top ≡ false) (pairs children) (pairs rest)
-      (All-ordered here children next ordered.1)
-      (All-ordered key rest behind ordered.2))
-
 module _ {X : Type 0} (precedes : X → X → Bool) (order : IsStrictOrder precedes) (keys : ℕ → Option X) (links : ℕ → Links) (top : X) where
   -- in a tree below a key that does not precede the top, each slot has a key that does not precede the top
   behind_in : (tree : Tree X) (prev at : Option ℕ) (above : X) (slot : ℕ) → Joined keys links prev at tree → Ordered precedes above tree → precedes above top ≡ false → 0 < slot_count slot tree → (key : X) × ((keys slot ≡ Some key) × (precedes key top ≡ false))
@@ -56,16 +41,6 @@ module _ {X : Type 0} (precedes : X → X → Bool) (order : IsStrictOrder prece
       ]
 
 module _ {V X : Type 0} (k : ℕ) (key_of : V → X) (precedes : X → X → Bool) where
-  pub least_first : IsStrictOrder precedes → (a : Arena V) (root : Option ℕ) → Stands k key_of precedes a root → IfSome root (λ slot. IsLeast k key_of precedes a root slot)
-  least_first order a None stands = tt
-  least_first order a (Some root) stands = λ key keyed.
-      let before = root_of k key_of precedes a root stands in
-      let e = sym before.rooted.keyed ∙ keyed in
-      let same : before.key ≡ key = cc in
-      let all = All-ordered precedes order before.key before.key (solo before.key root before.children) (order.irreflexive before.key) (order.irreflexive before.key, before.rooted.ordered, tt) in
-      subst (λ (x : X). All (λ (pair : X × ℕ). precedes pair.0 x ≡ false) (pairs_at k key_of a (Some root))) same
-      (subst (λ (t : Tree X). All (λ (pair : X × ℕ). precedes pair.0 before.key ≡ false) (pairs t)) (sym before.is) all)
-
   pub held_first : (a : Arena V) (root : Option ℕ) → Stands k key_of precedes a root → IfSome root (λ slot. Holds k key_of a root slot)
   held_first a None stands = tt
   held_first a (Some root) stands =

@@ -16,3 +16,5 @@ pub mod Rekeying
 pub mod Staying
 pub mod Apart
 pub mod Clearing
+pub mod Walking
+pub mod Listing

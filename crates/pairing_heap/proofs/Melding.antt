@@ -1,5 +1,5 @@
 -- What melding makes of trees.
-use Rattle.std.proofs.Common.{◌≡◌, ℕ, ◌+◌, ◌<◌, ◌≤◌, Bool, true, false, Option, Some, None, is_some, refl, sym, ap, subst, ◌∙◌, inl, inr, arith}
+use Rattle.std.proofs.Common.{◌≡◌, ℕ, ◌+◌, ◌<◌, ◌≤◌, Bool, true, false, Option, Some, None, is_some, cond, refl, sym, ap, subst, ◌∙◌, inl, inr, arith}
 use Rattle.link_arena.specs.declared.arena.Links.{Links}
 use Rattle.link_arena.specs.Arena.{Arena, value_at, links_at}
 use Rattle.pairing_heap.specs.Order.{IsStrictOrder}
@@ -118,6 +118,7 @@ module _ {V X : Type 0} (k : ℕ) (key_of : V → X) (precedes : X → X → Boo
         key = both.a_key;
         children = node both.b_key b both.b_children both.a_children;
         rooted = IsRoot-adopted precedes (keys_at key_of old) (keys_at key_of new) (links_at old k) (links_at new k) a b both.a_key both.b_key both.a_children both.b_children both.once (λ slot. ap (key_of_value key_of) (rest.values slot)) adopts both.a_root both.b_root behind;
+        becomes = ap (λ t. cond t (node both.b_key b (node both.a_key a both.a_children both.b_children) leaf) (node both.a_key a (node both.b_key b both.b_children both.a_children) leaf)) (sym behind);
         nodes = λ test. omega arith;
         next = ap (λ l. l.next) adopts.above;
         prev = ap (λ l. l.prev) adopts.above;
@@ -134,6 +135,7 @@ module _ {V X : Type 0} (k : ℕ) (key_of : V → X) (precedes : X → X → Boo
         key = both.b_key;
         children = node both.a_key a both.a_children both.b_children;
         rooted = IsRoot-adopted precedes (keys_at key_of old) (keys_at key_of new) (links_at old k) (links_at new k) b a both.b_key both.a_key both.b_children both.a_children once (λ slot. ap (key_of_value key_of) (rest.values slot)) adopts both.b_root both.a_root (asymmetric precedes order both.b_key both.a_key before);
+        becomes = ap (λ t. cond t (node both.b_key b (node both.a_key a both.a_children both.b_children) leaf) (node both.a_key a (node both.b_key b both.b_children both.a_children) leaf)) (sym before);
         nodes = λ test. omega arith;
         next = ap (λ l. l.next) adopts.above;
         prev = ap (λ l. l.prev) adopts.above;

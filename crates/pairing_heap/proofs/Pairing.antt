@@ -1,11 +1,13 @@
 -- Each step of the passes over a chain, and what they end with.
-use Rattle.std.proofs.Common.{◌≡◌, ℕ, ◌+◌, ◌-◌, ◌/◌, ◌<◌, ◌≤◌, Bool, true, Option, Some, None, length, min, refl, sym, ap, subst, ◌∙◌, arith}
+use Rattle.std.proofs.Common.{◌≡◌, ℕ, ◌+◌, ◌-◌, ◌/◌, ◌<◌, ◌≤◌, Bool, true, Option, Some, None, List, [], ◌∷◌, length, min, refl, sym, ap, subst, ◌∙◌, arith}
 use Rattle.std.specs.Prelude.{◌==◌}
+use Rattle.std.specs.List.{fold}
 use Rattle.link_arena.specs.declared.arena.Links.{Links}
 use Rattle.link_arena.specs.Arena.{Arena, value_at, links_at, IsLive, Relinks}
 use Rattle.pairing_heap.specs.Tree.{Tree, leaf, node, tally, slot_count, tree_from}
+use Rattle.pairing_heap.specs.Melding.{heaps, melded, paired, folded}
 use Rattle.pairing_heap.specs.Heap.{key_of_value, keys_at, LinksOnly}
-use Rattle.pairing_heap.specs.Chain.{solo, siblings, IsChain, Chained, Split, split_tally, Resplits, Pairs, Folds, Halves, Rechains, Merges, MergesInPairs}
+use Rattle.pairing_heap.specs.Chain.{solo, siblings, turned, IsChain, Chained, Split, split_tally, split_heaps, Resplits, Pairs, Folds, Halves, Rechains, Merges}
 use Rattle.pairing_heap.proofs.Counts.{one, one_same}
 use Rattle.pairing_heap.proofs.Size.{size, tree_from-chain}
 use Rattle.pairing_heap.proofs.Frame.{IsRoot-kept, IsChain-kept}
@@ -34,6 +36,12 @@ module _ {V : Type 0} (k : ℕ) where
         spare = spare;
       }
 
+module _ {X : Type 0} (precedes : X → X → Bool) where
+  -- to meld the heaps from the last on is to meld the turned ones from the first on
+  fold-turned : (xs done : List (Tree X)) → fold (melded precedes) leaf (turned xs done) ≡ fold (melded precedes) (folded precedes xs) done
+  fold-turned [] done = refl
+  fold-turned (a ∷ more) done = fold-turned more (a ∷ done)
+
 module _ {V X : Type 0} (k : ℕ) (key_of : V → X) (precedes : X → X → Bool) where
   -- how many nodes a walk from this slot finds
   abbrev pub walk_size : Arena V → ℕ → Option ℕ → ℕ
@@ -48,9 +56,14 @@ module _ {V X : Type 0} (k : ℕ) (key_of : V → X) (precedes : X → X → Boo
   tally-no_chain a (node key slot children rest) chain test = let e = chain.0 in absurd (cc)
 
   -- a chain's first root, where what comes next is known
-  pub split_before : (a : Arena V) (first : ℕ) (rest : Option ℕ) (was : Chained k key_of precedes a (Some first)) → (links_at a k first).next ≡ rest → (split : Split k key_of precedes a first rest) × ((test : X × ℕ → Bool) → split_tally k key_of precedes a first rest split test ≡ tally test was.tree) × (1 + siblings split.left ≡ siblings was.tree)
+  pub split_before : (a : Arena V) (first : ℕ) (rest : Option ℕ) (was : Chained k key_of precedes a (Some first)) → (links_at a k first).next ≡ rest → (split : Split k key_of precedes a first rest) × ((test : X × ℕ → Bool) → split_tally k key_of precedes a first rest split test ≡ tally test was.tree) × (1 + siblings split.left ≡ siblings was.tree) × (heaps was.tree ≡ split_heaps k key_of precedes a first rest split)
   split_before a first rest was is =
-      subst (λ (r : Option ℕ). (split : Split k key_of precedes a first r) × ((test : X × ℕ → Bool) → split_tally k key_of precedes a first r split test ≡ tally test was.tree) × (1 + siblings split.left ≡ siblings was.tree)) is (split_chain k key_of precedes a first was)
+      subst (λ (r : Option ℕ). (split : Split k key_of precedes a first r) × ((test : X × ℕ → Bool) → split_tally k key_of precedes a first r split test ≡ tally test was.tree) × (1 + siblings split.left ≡ siblings was.tree) × (heaps was.tree ≡ split_heaps k key_of precedes a first r split)) is (split_chain k key_of precedes a first was)
+
+  -- nor heaps
+  pub heaps-no_chain : (a : Arena V) (tree : Tree X) → IsChain precedes (keys_at key_of a) (links_at a k) None tree → heaps tree ≡ []
+  heaps-no_chain a leaf chain = refl
+  heaps-no_chain a (node key slot children rest) chain = let e = chain.0 in absurd (cc)
 
   -- nor has it roots
   pub siblings-no_chain : (a : Arena V) (tree : Tree X) → IsChain precedes (keys_at key_of a) (links_at a k) None tree → siblings tree ≡ 0
@@ -70,11 +83,21 @@ module _ {V X : Type 0} (k : ℕ) (key_of : V → X) (precedes : X → X → Boo
       let after = split_chain k key_of precedes a second (Chained-left k key_of precedes a first (Some second) split.0) in
       omega (arith, split.2, after.2)
 
+  -- a heap alone is all of its pairs, and a second one goes with the first
+  alone_pairs : (one : Tree X) (all left : List (Tree X)) → all ≡ one ∷ left → left ≡ [] → paired precedes all ≡ one ∷ paired precedes left
+  alone_pairs one all left all_is none =
+      ap (paired precedes) all_is ∙ subst (λ (xs : List (Tree X)). paired precedes (one ∷ xs) ≡ one ∷ paired precedes xs) (sym none) refl
+
+  two_pairs : (one two both : Tree X) (all left more : List (Tree X)) → all ≡ one ∷ left → left ≡ two ∷ more → both ≡ melded precedes one two → paired precedes all ≡ both ∷ paired precedes more
+  two_pairs one two both all left more all_is left_is both_is =
+      ap (paired precedes) (all_is ∙ ap (λ (xs : List (Tree X)). one ∷ xs) left_is) ∙ ap (λ (t : Tree X). t ∷ paired precedes more) (sym both_is)
+
   pub Pairs-alone : (a : Arena V) (first : ℕ) (was : Chained k key_of precedes a (Some first)) → (links_at a k first).next ≡ None → Pairs k key_of precedes a a first first None was
   Pairs-alone a first was is =
       let split = split_before a first None was is in
       record {
         now = split.0;
+        pairs = alone_pairs (solo split.0.key first split.0.children) (heaps was.tree) (heaps split.0.left) split.3 (heaps-no_chain a split.0.left split.0.chain);
         nodes = split.1;
         less = omega (arith, split.1 (λ _. true));
         fewer = omega (arith, split.2, siblings-no_chain a split.0.left split.0.chain);
@@ -86,6 +109,7 @@ module _ {V X : Type 0} (k : ℕ) (key_of : V → X) (precedes : X → X → Boo
       let split = split_before old first (Some second) was is in
       record {
         now = step.now;
+        pairs = two_pairs (solo split.0.key first split.0.children) step.second (solo step.now.key later step.now.children) (heaps was.tree) (heaps split.0.left) (heaps step.now.left) split.3 step.before step.becomes;
         nodes = λ test. step.nodes test ∙ split.1 test;
         less = omega (arith, step.less, split.1 (λ _. true));
         fewer = omega (arith, step.fewer, split.2);
@@ -105,6 +129,7 @@ module _ {V X : Type 0} (k : ℕ) (key_of : V → X) (precedes : X → X → Boo
         ready = leaf;
         left_chain = was.chain;
         ready_chain = refl;
+        pairs = refl;
         half = omega arith;
         spent = omega arith;
         nodes = λ test. omega arith;
@@ -145,6 +170,7 @@ module _ {V X : Type 0} (k : ℕ) (key_of : V → X) (precedes : X → X → Boo
           IsRoot-kept (keys_at key_of m) (keys_at key_of c) (links_at m k) (links_at c k) precedes top key children (ap (key_of_value key_of) (relinks.values top)) (ap (λ l. l.child) relinks.here) children_kept pairs.now.rooted,
           subst (λ (at : Option ℕ). IsChain precedes (keys_at key_of c) (links_at c k) at halves.ready) (ap (λ l. l.next) (sym relinks.here)) ready_chain,
         );
+        pairs = ap (λ (xs : List (Tree X)). turned xs (heaps halves.ready)) (sym pairs.pairs) ∙ halves.pairs;
         half = omega (arith, halves.half, pairs.fewer, some);
         spent = omega (arith, halves.spent, ticks, pairs.fewer, some);
         nodes = λ test. omega (arith, halves.nodes test, pairs.nodes test);
@@ -174,6 +200,7 @@ module _ {V X : Type 0} (k : ℕ) (key_of : V → X) (precedes : X → X → Boo
       record {
         tree = halves.ready;
         chain = halves.ready_chain;
+        pairs = ap (λ (xs : List (Tree X)). turned (paired precedes xs) (heaps halves.ready)) (sym (heaps-no_chain new halves.left halves.left_chain)) ∙ halves.pairs;
         half = omega (arith, halves.half, siblings-no_chain new halves.left halves.left_chain);
         nodes = λ test. omega (arith, halves.nodes test, tally-no_chain new halves.left halves.left_chain test);
         kept = halves.kept;
@@ -190,6 +217,7 @@ module _ {V X : Type 0} (k : ℕ) (key_of : V → X) (precedes : X → X → Boo
       let split = split_chain k key_of precedes a top was in
       record {
         now = split.0;
+        folds = ap (fold (melded precedes) leaf) (sym split.3);
         some = omega (arith, split.2);
         spent = omega (arith, split.2);
         nodes = split.1;
@@ -201,6 +229,9 @@ module _ {V X : Type 0} (k : ℕ) (key_of : V → X) (precedes : X → X → Boo
   Folds-step f b m first rest top other later was start steps after folds ticks step =
       record {
         now = step.now;
+        folds = ap (λ (t : Tree X). fold (melded precedes) t (heaps step.now.left)) step.becomes
+            ∙ ap (fold (melded precedes) (solo folds.now.key top folds.now.children)) (sym step.before)
+            ∙ folds.folds;
         some = folds.some;
         spent = omega (arith, folds.spent, ticks, step.fewer);
         nodes = λ test. step.nodes test ∙ folds.nodes test;
@@ -218,7 +249,7 @@ module _ {V X : Type 0} (k : ℕ) (key_of : V → X) (precedes : X → X → Boo
       omega (arith, before, after, step.less)
 
   -- the last root stands alone
-  pub Merges-done : (f b c : Arena V) (first : Option ℕ) (top : ℕ) (was : Chained k key_of precedes f first) (start steps : ℕ) (folds : Folds k key_of precedes f b first top None was start steps) → Relinks b c k top record { child = (links_at b k top).child; next = None; prev = None } → c.spare ≡ b.spare → Merges k key_of precedes f c first (Some top) was
+  pub Merges-done : (f b c : Arena V) (first : Option ℕ) (top : ℕ) (was : Chained k key_of precedes f first) (start steps : ℕ) (folds : Folds k key_of precedes f b first top None was start steps) → Relinks b c k top record { child = (links_at b k top).child; next = None; prev = None } → c.spare ≡ b.spare → Merges k key_of precedes f c first (Some top) was (fold (melded precedes) leaf (heaps was.tree))
   Merges-done f b c first top was start steps folds relinks spare =
       let key = folds.now.key in
       let children = folds.now.children in
@@ -227,6 +258,7 @@ module _ {V X : Type 0} (k : ℕ) (key_of : V → X) (precedes : X → X → Boo
       let root = IsRoot-kept (keys_at key_of b) (keys_at key_of c) (links_at b k) (links_at c k) precedes top key children (ap (key_of_value key_of) (relinks.values top)) (ap (λ l. l.child) relinks.here) children_kept folds.now.rooted in
       record {
         tree = solo key top children;
+        is = ap (fold (melded precedes) (solo key top children)) (sym (heaps-no_chain b folds.now.left folds.now.chain)) ∙ folds.folds;
         heap = record {
           joined = (refl, root.keyed, ap (λ l. l.prev) relinks.here, root.joined, ap (λ l. l.next) relinks.here);
           once = λ slot. omega (arith, folds.now.once slot);
@@ -244,10 +276,11 @@ module _ {V X : Type 0} (k : ℕ) (key_of : V → X) (precedes : X → X → Boo
       omega (arith, folds.some, folds.spent, siblings-no_chain b folds.now.left folds.now.chain)
 
   -- of no chain comes no heap
-  pub Merges-none : (a : Arena V) (was : Chained k key_of precedes a None) → Merges k key_of precedes a a None None was
+  pub Merges-none : (a : Arena V) (was : Chained k key_of precedes a None) → Merges k key_of precedes a a None None was (fold (melded precedes) leaf (heaps was.tree))
   Merges-none a was =
       record {
         tree = leaf;
+        is = ap (fold (melded precedes) leaf) (sym (heaps-no_chain a was.tree was.chain));
         heap = record { joined = refl; once = λ slot. omega arith; ordered = tt };
         nodes = λ test. sym (tally-no_chain a was.tree was.chain test);
         kept = LinksOnly-same k a (λ slot. slot_count slot was.tree);
@@ -264,27 +297,16 @@ module _ {V X : Type 0} (k : ℕ) (key_of : V → X) (precedes : X → X → Boo
       }
 
   -- both passes together
-  pub Merges-both : (a b c : Arena V) (first paired root : Option ℕ) (was : Chained k key_of precedes a first) (rechains : Rechains k key_of precedes a b first paired was) → Merges k key_of precedes b c paired root (Chained-rechains a b first paired was rechains) → Merges k key_of precedes a c first root was
-  Merges-both a b c first paired root was rechains merges =
+  pub Merges-both : (a b c : Arena V) (first middle root : Option ℕ) (was : Chained k key_of precedes a first) (rechains : Rechains k key_of precedes a b first middle was) → Merges k key_of precedes b c middle root (Chained-rechains a b first middle was rechains) (fold (melded precedes) leaf (heaps rechains.tree)) → Merges k key_of precedes a c first root was (folded precedes (paired precedes (heaps was.tree)))
+  Merges-both a b c first middle root was rechains merges =
       record {
         tree = merges.tree;
+        is = merges.is ∙ ap (fold (melded precedes) leaf) rechains.pairs ∙ fold-turned precedes (paired precedes (heaps was.tree)) [];
         heap = merges.heap;
         nodes = λ test. merges.nodes test ∙ rechains.nodes test;
         kept = LinksOnly-then k a b c (λ slot. slot_count slot was.tree) (λ slot. slot_count slot rechains.tree) (λ slot. slot_count slot was.tree) rechains.kept merges.kept
             (λ slot none. none)
             (λ slot none. rechains.nodes (λ pair. pair.1 == slot) ∙ none);
-      }
-
-  -- and how they stand one after the other
-  pub Merges-paired : (a b c : Arena V) (first paired root : Option ℕ) (was : Chained k key_of precedes a first) (rechains : Rechains k key_of precedes a b first paired was) → Merges k key_of precedes b c paired root (Chained-rechains a b first paired was rechains) → MergesInPairs k key_of precedes a c first root was
-  Merges-paired a b c first paired root was rechains merges =
-      record {
-        middle = b;
-        paired = paired;
-        chained = Chained-rechains a b first paired was rechains;
-        half = rechains.half;
-        nodes = rechains.nodes;
-        merges = merges;
       }
 
   -- the first slot of a chain is live
@@ -309,8 +331,8 @@ module _ {V X : Type 0} (k : ℕ) (key_of : V → X) (precedes : X → X → Boo
   siblings-nowhere a first is was =
       siblings-no_chain a was.tree (subst (λ (f : Option ℕ). IsChain precedes (keys_at key_of a) (links_at a k) f was.tree) is was.chain)
 
-  pub Merges-nowhere : (a : Arena V) (first : Option ℕ) → first ≡ None → (was : Chained k key_of precedes a first) → Merges k key_of precedes a a first None was
-  Merges-nowhere a first is = subst (λ (f : Option ℕ). (was : Chained k key_of precedes a f) → Merges k key_of precedes a a f None was) (sym is) (Merges-none a)
+  pub Merges-nowhere : (a : Arena V) (first : Option ℕ) → first ≡ None → (was : Chained k key_of precedes a first) → Merges k key_of precedes a a first None was (fold (melded precedes) leaf (heaps was.tree))
+  Merges-nowhere a first is = subst (λ (f : Option ℕ). (was : Chained k key_of precedes a f) → Merges k key_of precedes a a f None was (fold (melded precedes) leaf (heaps was.tree))) (sym is) (Merges-none a)
 
   pub Folds-at : (a b : Arena V) (first : Option ℕ) (top : ℕ) (rest now : Option ℕ) (was : Chained k key_of precedes a first) (start steps : ℕ) → rest ≡ now → Folds k key_of precedes a b first top rest was start steps → Folds k key_of precedes a b first top now was start steps
   Folds-at a b first top rest now was start steps is folds = subst (λ (r : Option ℕ). Folds k key_of precedes a b first top r was start steps) is folds

@@ -6,7 +6,8 @@ use Rattle.std.proofs.lemmas.List.{get_or_past}
 use Rattle.link_arena.specs.Arena.{Arena, value_of, value_at, links_at, IsLive}
 use Rattle.pairing_heap.specs.Tree.{Tree, leaf, node, tally, slot_count}
 use Rattle.pairing_heap.specs.Heap.{key_of_value, keys_at, LinksOnly}
-use Rattle.pairing_heap.specs.Chain.{solo, IsRoot, IsChain, CanMeld, Melds, Chained, Split, siblings, split_tally, Resplits}
+use Rattle.pairing_heap.specs.Melding.{heaps}
+use Rattle.pairing_heap.specs.Chain.{solo, IsRoot, IsChain, CanMeld, Melds, Chained, Split, siblings, split_tally, split_heaps, Resplits}
 use Rattle.pairing_heap.proofs.Size.{size, size-most, keyed-chain}
 use Rattle.pairing_heap.proofs.Frame.{Kept, IsChain-kept}
 use Rattle.pairing_heap.proofs.Melding.{live_from_key}
@@ -38,22 +39,23 @@ module _ {V X : Type 0} (k : ℕ) (key_of : V → X) (precedes : X → X → Boo
       let keyed = keyed-chain precedes (keys_at key_of a) (links_at a k) first was.tree slot was.chain some in
       within_from_live a slot (live_from_key key_of (value_at a slot) keyed.0 keyed.1))
 
-  split_node : (a : Arena V) (key : X) (slot top : ℕ) (children rest : Tree X) → k < 2 → Some top ≡ Some slot → IsRoot precedes (keys_at key_of a) (links_at a k) slot key children → ChainAt a (links_at a k slot).next rest → ((other : ℕ) → slot_count other (node key slot children rest) ≤ 1) → (split : Split k key_of precedes a top (links_at a k top).next) × ((test : X × ℕ → Bool) → split_tally k key_of precedes a top (links_at a k top).next split test ≡ tally test (node key slot children rest)) × (1 + siblings split.left ≡ 1 + siblings rest)
+  split_node : (a : Arena V) (key : X) (slot top : ℕ) (children rest : Tree X) → k < 2 → Some top ≡ Some slot → IsRoot precedes (keys_at key_of a) (links_at a k) slot key children → ChainAt a (links_at a k slot).next rest → ((other : ℕ) → slot_count other (node key slot children rest) ≤ 1) → (split : Split k key_of precedes a top (links_at a k top).next) × ((test : X × ℕ → Bool) → split_tally k key_of precedes a top (links_at a k top).next split test ≡ tally test (node key slot children rest)) × (1 + siblings split.left ≡ 1 + siblings rest) × (heaps (node key slot children rest) ≡ split_heaps k key_of precedes a top (links_at a k top).next split)
   split_node a key slot top children rest set is rooted chain once =
-      let here : (split : Split k key_of precedes a slot (links_at a k slot).next) × ((test : X × ℕ → Bool) → split_tally k key_of precedes a slot (links_at a k slot).next split test ≡ tally test (node key slot children rest)) × (1 + siblings split.left ≡ 1 + siblings rest) = (
+      let here : (split : Split k key_of precedes a slot (links_at a k slot).next) × ((test : X × ℕ → Bool) → split_tally k key_of precedes a slot (links_at a k slot).next split test ≡ tally test (node key slot children rest)) × (1 + siblings split.left ≡ 1 + siblings rest) × (heaps (node key slot children rest) ≡ split_heaps k key_of precedes a slot (links_at a k slot).next split) = (
         record { set = set; key = key; children = children; left = rest; rooted = rooted; chain = chain; once = λ other. omega (arith, once other) },
         λ test. omega arith,
         refl,
+        refl,
       ) in
       let same : slot ≡ top = cc in
-      subst (λ (t : ℕ). (split : Split k key_of precedes a t (links_at a k t).next) × ((test : X × ℕ → Bool) → split_tally k key_of precedes a t (links_at a k t).next split test ≡ tally test (node key slot children rest)) × (1 + siblings split.left ≡ 1 + siblings rest)) same here
+      subst (λ (t : ℕ). (split : Split k key_of precedes a t (links_at a k t).next) × ((test : X × ℕ → Bool) → split_tally k key_of precedes a t (links_at a k t).next split test ≡ tally test (node key slot children rest)) × (1 + siblings split.left ≡ 1 + siblings rest) × (heaps (node key slot children rest) ≡ split_heaps k key_of precedes a t (links_at a k t).next split)) same here
 
-  split_tree : (a : Arena V) (top : ℕ) (tree : Tree X) → k < 2 → ChainAt a (Some top) tree → ((other : ℕ) → slot_count other tree ≤ 1) → (split : Split k key_of precedes a top (links_at a k top).next) × ((test : X × ℕ → Bool) → split_tally k key_of precedes a top (links_at a k top).next split test ≡ tally test tree) × (1 + siblings split.left ≡ siblings tree)
+  split_tree : (a : Arena V) (top : ℕ) (tree : Tree X) → k < 2 → ChainAt a (Some top) tree → ((other : ℕ) → slot_count other tree ≤ 1) → (split : Split k key_of precedes a top (links_at a k top).next) × ((test : X × ℕ → Bool) → split_tally k key_of precedes a top (links_at a k top).next split test ≡ tally test tree) × (1 + siblings split.left ≡ siblings tree) × (heaps tree ≡ split_heaps k key_of precedes a top (links_at a k top).next split)
   split_tree a top leaf set chain once = absurd (cc)
   split_tree a top (node key slot children rest) set chain once = split_node a key slot top children rest set chain.0 chain.1 chain.2 once
 
   -- a chain is its first root and the chain after it
-  pub split_chain : (a : Arena V) (top : ℕ) (was : Chained k key_of precedes a (Some top)) → (split : Split k key_of precedes a top (links_at a k top).next) × ((test : X × ℕ → Bool) → split_tally k key_of precedes a top (links_at a k top).next split test ≡ tally test was.tree) × (1 + siblings split.left ≡ siblings was.tree)
+  pub split_chain : (a : Arena V) (top : ℕ) (was : Chained k key_of precedes a (Some top)) → (split : Split k key_of precedes a top (links_at a k top).next) × ((test : X × ℕ → Bool) → split_tally k key_of precedes a top (links_at a k top).next split test ≡ tally test was.tree) × (1 + siblings split.left ≡ siblings was.tree) × (heaps was.tree ≡ split_heaps k key_of precedes a top (links_at a k top).next split)
   split_chain a top was = split_tree a top was.tree was.set was.chain was.once
 
   -- the chain after a root
@@ -93,6 +95,9 @@ module _ {V X : Type 0} (k : ℕ) (key_of : V → X) (precedes : X → X → Boo
           chain = IsChain-kept (keys_at key_of old) (keys_at key_of new) (links_at old k) (links_at new k) precedes (links_at old k other).next second.0.left kept second.0.chain;
           once = λ slot. omega (arith, apart slot, melds.nodes (λ pair. pair.1 == slot));
         };
+        second = solo second.0.key other second.0.children;
+        before = second.3;
+        becomes = melds.becomes;
         nodes = λ test. omega (arith, melds.nodes test, second.1 test);
         less = omega (arith, second.1 (λ _. true));
         fewer = second.2;

@@ -2,11 +2,13 @@
 use Rattle.std.proofs.Common.{◌≡◌, ℕ, ◌+◌, Bool, Option, Some, None, count_by, cond, sym, ap, ◌∙◌, arith}
 use Rattle.std.specs.Prelude.{◌==◌}
 use Rattle.link_arena.specs.Arena.{Arena, value_at, links_at, IsLive, Revalues}
+use Rattle.pairing_heap.specs.Tree.{Tree, leaf, node}
+use Rattle.pairing_heap.specs.Melding.{melded}
 use Rattle.pairing_heap.specs.Heap.{times_of, key_of_value, keys_at, tree_at, pairs_at, Stands, Holds, Lacks, AddsPair, TakesPair, RekeysPair}
 use Rattle.pairing_heap.proofs.Counts.{one_same, apart}
 use Rattle.pairing_heap.proofs.Size.{keyed-joined}
 use Rattle.pairing_heap.proofs.Melding.{live_from_key}
-use Rattle.pairing_heap.proofs.Standing.{Stands-kept, count_by-stands, count_by-more}
+use Rattle.pairing_heap.proofs.Standing.{Stands-kept, tree_at-kept, count_by-stands, count_by-more}
 use Rattle.pairing_heap.proofs.Adding.{key_from_live}
 
 module _ {V X : Type 0} (k : ℕ) (key_of : V → X) (precedes : X → X → Bool) where
@@ -18,6 +20,17 @@ module _ {V X : Type 0} (k : ℕ) (key_of : V → X) (precedes : X → X → Boo
         keys_stay = λ other some. ap (key_of_value key_of) (revalues.elsewhere other (apart (tree_at k key_of old heap) slot other absent some));
         links_stay = λ other some. revalues.links k other;
       }
+
+  -- and keeps its shape, so that the slot is melded with what was left of the heap
+  pub Rekeys-tree : (b c d : Arena V) (mid later : Option ℕ) (slot : ℕ) (value : V) (left : Tree X) → Revalues b c slot value → Stands k key_of precedes b mid → times_of (pairs_at k key_of b mid) slot ≡ 0 → tree_at k key_of b mid ≡ left → ((key : X) → keys_at key_of c slot ≡ Some key → tree_at k key_of d later ≡ melded precedes (tree_at k key_of c mid) (node key slot leaf leaf)) → tree_at k key_of d later ≡ melded precedes left (node (key_of value) slot leaf leaf)
+  Rekeys-tree b c d mid later slot value left revalues stands lacks is melds =
+      let absent = sym (count_by-stands k key_of precedes b mid (λ pair. pair.1 == slot)) ∙ lacks in
+      let same = tree_at-kept k key_of precedes b c mid stands record {
+        keys_stay = λ other some. ap (key_of_value key_of) (revalues.elsewhere other (apart (tree_at k key_of b mid) slot other absent some));
+        links_stay = λ other some. revalues.links k other;
+      } in
+      melds (key_of value) (ap (key_of_value key_of) revalues.here)
+      ∙ ap (λ t. melded precedes t (node (key_of value) slot leaf leaf)) (same ∙ is)
 
   -- once the slot is taken out, the heap lacks it
   pub Lacks-taken : (old new : Arena V) (heap later : Option ℕ) (slot : ℕ) → IsLive old slot → Stands k key_of precedes old heap → TakesPair k key_of precedes old new heap later slot → Lacks k key_of new later slot

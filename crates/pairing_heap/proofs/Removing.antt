@@ -2,7 +2,8 @@
 use Rattle.std.proofs.Common.{◌≡◌, ◌≢◌, ℕ, ◌+◌, ◌<◌, ◌≤◌, Bool, true, Option, Some, None, IsSome, length, count_by, cond, refl, sym, ap, subst, ◌∙◌, arith}
 use Rattle.std.specs.Prelude.{◌==◌}
 use Rattle.link_arena.specs.Arena.{Arena, value_at, links_at, IsLive, unlinked, Relinks}
-use Rattle.pairing_heap.specs.Tree.{Tree, leaf, tally, slot_count, Joined}
+use Rattle.pairing_heap.specs.Tree.{Tree, leaf, node, tally, slot_count, Joined}
+use Rattle.pairing_heap.specs.Melding.{heaps, melded, paired, folded, children_of, without, taken_out}
 use Rattle.pairing_heap.specs.Heap.{times_of, key_of_value, keys_at, tree_at, pairs_at, Stands, Holds, LinksOnly, TakesPair}
 use Rattle.pairing_heap.specs.Chain.{solo, siblings, IsRoot, Unhooks, CanUnhook, KeepsRest, Split, split_tally, Joins}
 use Rattle.pairing_heap.proofs.Counts.{one, one_same, one_other, apart}
@@ -10,9 +11,9 @@ use Rattle.pairing_heap.proofs.Size.{keyed-joined, siblings-most}
 use Rattle.pairing_heap.proofs.Frame.{Kept, IsRoot-kept, IsChain-kept, IsChain-joined}
 use Rattle.pairing_heap.proofs.Melding.{live_from_key}
 use Rattle.pairing_heap.proofs.Pairing.{LinksOnly-relinks, LinksOnly-then}
-use Rattle.pairing_heap.proofs.Standing.{no_root, count_by-stands, length-pairs}
+use Rattle.pairing_heap.proofs.Standing.{no_root, tree_at-heap, count_by-stands, length-pairs}
 use Rattle.pairing_heap.proofs.Taking.{Takes-links, root_of}
-use Rattle.pairing_heap.proofs.Cutting.{pred_in, next_in}
+use Rattle.pairing_heap.proofs.Cutting.{without-other, children-other, first_of-alone, pred_in, next_in}
 use Rattle.pairing_heap.proofs.Cuts.{cut_below, cut_in}
 
 module _ {V X : Type 0} (k : ℕ) (key_of : V → X) (precedes : X → X → Bool) where
@@ -27,6 +28,7 @@ module _ {V X : Type 0} (k : ℕ) (key_of : V → X) (precedes : X → X → Boo
     pub set : k < 2
     pub key : X
     pub children : Tree X
+    pub is : tree_at k key_of a (Some root) ≡ solo key root children
     pub rooted : IsRoot precedes (keys_at key_of a) (links_at a k) root key children
     pub joined : Joined (keys_at key_of a) (links_at a k) None (Some root) (solo key root children)
     pub once : (other : ℕ) → slot_count other (solo key root children) ≤ 1
@@ -45,6 +47,7 @@ module _ {V X : Type 0} (k : ℕ) (key_of : V → X) (precedes : X → X → Boo
         set = stands.set;
         key = before.key;
         children = before.children;
+        is = before.is;
         rooted = before.rooted;
         joined = (refl, before.rooted.keyed, before.prev, before.rooted.joined, before.next);
         once = λ other. omega (arith, stands.heap.once other, ap (slot_count other) before.is);
@@ -101,6 +104,8 @@ module _ {V X : Type 0} (k : ℕ) (key_of : V → X) (precedes : X → X → Boo
     pub key : X
     pub keyed : keys_at key_of old slot ≡ Some key
     pub split : Split k key_of precedes new root (links_at old k slot).child
+    pub gone : without slot (tree_at k key_of old (Some root)) ≡ solo split.key root split.children
+    pub children : children_of slot (tree_at k key_of old (Some root)) ≡ split.left
     pub next : (links_at new k root).next ≡ None
     pub prev : (links_at new k root).prev ≡ None
     pub nodes : (test : X × ℕ → Bool) → count_by test (pairs_at k key_of old (Some root)) ≡ cond (test (key, slot)) 1 0 + split_tally k key_of precedes new root (links_at old k slot).child split test
@@ -153,6 +158,8 @@ module _ {V X : Type 0} (k : ℕ) (key_of : V → X) (precedes : X → X → Boo
           chain = IsChain-kept keys (keys_at key_of new) (links_at old k) (links_at new k) precedes (links_at old k slot).child cut.below below_kept chain;
           once = λ other. omega (arith, inner.once other, cut.nodes (λ pair. pair.1 == other));
         };
+        gone = ap (without slot) inner.is ∙ without-other inner.key root slot inner.children leaf inner.differs ∙ ap (λ t. node inner.key root t leaf) cut.gone;
+        children = ap (children_of slot) inner.is ∙ children-other inner.key root slot inner.children leaf inner.differs ∙ first_of-alone (children_of slot inner.children) ∙ cut.children;
         next = ap (λ l. l.next) at_root ∙ below.next ∙ inner.next;
         prev = ap (λ l. l.prev) at_root ∙ below.prev ∙ inner.prev;
         nodes = λ test. omega (arith, inner.nodes test, cut.nodes test);
@@ -174,6 +181,18 @@ module _ {V X : Type 0} (k : ℕ) (key_of : V → X) (precedes : X → X → Boo
       (LinksOnly-then k old mid new (times_of (pairs_at k key_of old (Some root))) (λ other. split_tally k key_of precedes mid root (links_at old k slot).child outside.split (λ pair. pair.1 == other)) (times_of (pairs_at k key_of old (Some root))) outside.kept joins.kept
       (λ other none. none)
       (λ other none. omega (arith, none, outside.nodes (λ pair. pair.1 == other))))
+
+  -- and the rest was melded with what the slot's children became
+  pub Takes-inner-paired : (old mid new : Arena V) (root slot result : ℕ) (outside : Outside old mid root slot) → Joins k key_of precedes mid new root (links_at old k slot).child result outside.split → tree_at k key_of new (Some result) ≡ taken_out precedes slot (tree_at k key_of old (Some root))
+  Takes-inner-paired old mid new root slot result outside joins =
+      tree_at-heap k key_of precedes new (Some result) joins.tree joins.heap ∙ joins.becomes
+      ∙ ap (λ t. melded precedes t (folded precedes (paired precedes (heaps outside.split.left)))) (sym outside.gone)
+      ∙ ap (λ t. melded precedes (without slot (tree_at k key_of old (Some root))) (folded precedes (paired precedes (heaps t)))) (sym outside.children)
+
+  pub Takes-inner-paired-at : (old mid new : Arena V) (root slot result : ℕ) (at : Option ℕ) → (links_at old k slot).child ≡ at → Outside old mid root slot → ((was : Split k key_of precedes mid root at) → (links_at mid k root).next ≡ None → (links_at mid k root).prev ≡ None → Joins k key_of precedes mid new root at result was) → tree_at k key_of new (Some result) ≡ taken_out precedes slot (tree_at k key_of old (Some root))
+  Takes-inner-paired-at old mid new root slot result at is outside joins =
+      let moved = subst (λ (a : Option ℕ). (was : Split k key_of precedes mid root a) → (links_at mid k root).next ≡ None → (links_at mid k root).prev ≡ None → Joins k key_of precedes mid new root a result was) (sym is) joins in
+      Takes-inner-paired old mid new root slot result outside (moved outside.split outside.next outside.prev)
 
   -- the same, where the slot's first child is known by another name
   pub Takes-inner-at : (old mid new : Arena V) (root slot result : ℕ) (at : Option ℕ) → (links_at old k slot).child ≡ at → Stands k key_of precedes old (Some root) → Outside old mid root slot → ((was : Split k key_of precedes mid root at) → (links_at mid k root).next ≡ None → (links_at mid k root).prev ≡ None → Joins k key_of precedes mid new root at result was) → TakesPair k key_of precedes old new (Some root) (Some result) slot

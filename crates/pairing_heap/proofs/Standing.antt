@@ -97,6 +97,15 @@ module _ {V X : Type 0} (k : ℕ) (key_of : V → X) (precedes : X → X → Boo
   pub count_by-stands : (a : Arena V) (root : Option ℕ) → (test : X × ℕ → Bool) → count_by test (pairs_at k key_of a root) ≡ tally test (tree_at k key_of a root)
   count_by-stands a root test = count_by-pairs test (tree_at k key_of a root)
 
+  -- a heap's shape stays where keys and links of its slots stay
+  pub tree_at-kept : (old new : Arena V) (root : Option ℕ) → Stands k key_of precedes old root → Kept (keys_at key_of old) (keys_at key_of new) (links_at old k) (links_at new k) (tree_at k key_of old root) → tree_at k key_of new root ≡ tree_at k key_of old root
+  tree_at-kept old new root stands kept =
+      tree_at-heap new root (tree_at k key_of old root) record {
+        joined = Joined-kept (keys_at key_of old) (keys_at key_of new) (links_at old k) (links_at new k) None root (tree_at k key_of old root) kept stands.heap.joined;
+        once = stands.heap.once;
+        ordered = stands.heap.ordered;
+      }
+
   -- a heap stays where keys and links of its slots stay
   pub Stands-kept : (old new : Arena V) (root : Option ℕ) → Stands k key_of precedes old root → Kept (keys_at key_of old) (keys_at key_of new) (links_at old k) (links_at new k) (tree_at k key_of old root) → Stands k key_of precedes new root × (pairs_at k key_of new root ≡ pairs_at k key_of old root)
   Stands-kept old new root stands kept =

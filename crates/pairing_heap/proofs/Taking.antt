@@ -1,8 +1,10 @@
 -- What taking a slot out makes of a heap.
-use Rattle.std.proofs.Common.{◌≡◌, ℕ, ◌+◌, ◌<◌, ◌≤◌, Bool, true, Option, Some, length, count_by, cond, sym, ap, ◌∙◌, arith}
+use Rattle.std.proofs.Common.{◌≡◌, ℕ, ◌+◌, ◌<◌, ◌≤◌, Bool, true, Option, Some, length, count_by, cond, refl, sym, ap, ◌∙◌, arith}
+use Rattle.std.proofs.lemmas.Bool.{eq-eqb}
 use Rattle.std.specs.Prelude.{◌==◌}
 use Rattle.link_arena.specs.Arena.{Arena, value_at, links_at, IsLive, unlinked, Relinks}
-use Rattle.pairing_heap.specs.Tree.{Tree, tally, slot_count, IsHeap}
+use Rattle.pairing_heap.specs.Tree.{Tree, leaf, node, tally, slot_count, IsHeap}
+use Rattle.pairing_heap.specs.Melding.{heaps, melded, paired, folded, first_of, children_of, without, taken_out}
 use Rattle.pairing_heap.specs.Heap.{times_of, keys_at, tree_at, pairs_at, Stands, LinksOnly, TakesPair}
 use Rattle.pairing_heap.specs.Chain.{solo, siblings, Chained, Merges}
 use Rattle.pairing_heap.proofs.Counts.{one, one_same}
@@ -10,8 +12,13 @@ use Rattle.pairing_heap.proofs.Frame.{IsChain-kept, IsChain-joined}
 use Rattle.pairing_heap.proofs.Melding.{live_from_key}
 use Rattle.pairing_heap.proofs.Passes.{Kept-apart}
 use Rattle.pairing_heap.proofs.Pairing.{LinksOnly-relinks, LinksOnly-then}
-use Rattle.pairing_heap.proofs.Standing.{HasRoot, has_root, Stands-heap, count_by-heap, count_by-stands, count_by-more, length-pairs, OthersStay-links}
+use Rattle.pairing_heap.proofs.Standing.{HasRoot, has_root, Stands-heap, tree_at-heap, count_by-heap, count_by-stands, count_by-more, length-pairs, OthersStay-links}
 use Rattle.pairing_heap.proofs.Size.{siblings-most}
+
+-- without its root, a heap is what its children become
+taken_root : {X : Type 0} (precedes : X → X → Bool) (key : X) (root : ℕ) (children : Tree X) → folded precedes (paired precedes (heaps children)) ≡ taken_out precedes root (solo key root children)
+taken_root {X} precedes key root children =
+    ap (λ t. melded precedes (cond t leaf (node key root (without root children) leaf)) (folded precedes (paired precedes (heaps (cond t children (first_of (children_of root children) leaf)))))) (sym (eq-eqb root root refl))
 
 module _ {V X : Type 0} (k : ℕ) (key_of : V → X) (precedes : X → X → Bool) where
   pub Takes-links : (old new : Arena V) (heap later : Option ℕ) (slot : ℕ) (key : X) (tree : Tree X) → k < 2 → keys_at key_of old slot ≡ Some key → IsHeap precedes (keys_at key_of new) (links_at new k) later tree → ((test : X × ℕ → Bool) → count_by test (pairs_at k key_of old heap) ≡ cond (test (key, slot)) 1 0 + tally test tree) → links_at new k slot ≡ unlinked → LinksOnly k old new (times_of (pairs_at k key_of old heap)) → TakesPair k key_of precedes old new heap later slot
@@ -61,7 +68,7 @@ module _ {V X : Type 0} (k : ℕ) (key_of : V → X) (precedes : X → X → Boo
       omega (arith, children.1 (λ _. true), siblings-most children.0.tree, length-pairs (tree_at k key_of old (Some root)), count_by-stands k key_of precedes old (Some root) (λ _. true))
 
   -- the root goes, and its children become the heap
-  pub Takes-root : (old mid new : Arena V) (root : ℕ) (later : Option ℕ) (stands : Stands k key_of precedes old (Some root)) (relinks : Relinks old mid k root unlinked) (spare : mid.spare ≡ old.spare) → Merges k key_of precedes mid new (links_at old k root).child later (Chained-children old mid root stands relinks spare).0 → TakesPair k key_of precedes old new (Some root) later root
+  pub Takes-root : (old mid new : Arena V) (root : ℕ) (later : Option ℕ) (stands : Stands k key_of precedes old (Some root)) (relinks : Relinks old mid k root unlinked) (spare : mid.spare ≡ old.spare) → Merges k key_of precedes mid new (links_at old k root).child later (Chained-children old mid root stands relinks spare).0 (folded precedes (paired precedes (heaps (Chained-children old mid root stands relinks spare).0.tree))) → TakesPair k key_of precedes old new (Some root) later root
   Takes-root old mid new root later stands relinks spare merges =
       let before = root_of old root stands in
       let children = Chained-children old mid root stands relinks spare in
@@ -73,3 +80,12 @@ module _ {V X : Type 0} (k : ℕ) (key_of : V → X) (precedes : X → X → Boo
       (LinksOnly-then k old mid new (one root) (λ slot. slot_count slot children.0.tree) (times_of (pairs_at k key_of old (Some root))) written merges.kept
       (λ slot none. omega (arith, none, children.1 (λ pair. pair.1 == slot)))
       (λ slot none. omega (arith, none, children.1 (λ pair. pair.1 == slot))))
+
+  -- so the heap is what its children become
+  pub Takes-paired : (old mid new : Arena V) (root : ℕ) (later : Option ℕ) (stands : Stands k key_of precedes old (Some root)) (relinks : Relinks old mid k root unlinked) (spare : mid.spare ≡ old.spare) → Merges k key_of precedes mid new (links_at old k root).child later (Chained-children old mid root stands relinks spare).0 (folded precedes (paired precedes (heaps (Chained-children old mid root stands relinks spare).0.tree))) → tree_at k key_of new later ≡ taken_out precedes root (tree_at k key_of old (Some root))
+  unfolding Chained-children root_of
+  Takes-paired old mid new root later stands relinks spare merges =
+      let before = root_of old root stands in
+      tree_at-heap k key_of precedes new later merges.tree merges.heap ∙ merges.is
+      ∙ taken_root precedes before.key root before.children
+      ∙ ap (taken_out precedes root) (sym before.is)

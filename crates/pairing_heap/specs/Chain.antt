@@ -1,8 +1,10 @@
 -- How the work on a heap is said: roots, and chains of them. No public clause cites this module.
-use Rattle.std.specs.Prelude.{◌≡◌, ◌≢◌, ◌⊎◌, ℕ, ◌+◌, ◌-◌, ◌/◌, ◌<◌, ◌≤◌, Bool, true, Option, Some, None, ◌==◌}
+use Rattle.std.specs.Prelude.{◌≡◌, ◌≢◌, ◌⊎◌, ℕ, ◌+◌, ◌-◌, ◌/◌, ◌<◌, ◌≤◌, Bool, true, List, [], ◌∷◌, Option, Some, None, ◌==◌}
+use Rattle.std.specs.List.{fold}
 use Rattle.link_arena.specs.declared.arena.Links.{Links}
 use Rattle.link_arena.specs.Arena.{Arena, value_at, links_at, IsLive}
 use Rattle.pairing_heap.specs.Tree.{Tree, leaf, node, tally, slot_count, Joined, Ordered, IsHeap}
+use Rattle.pairing_heap.specs.Melding.{heaps, melded, paired, folded}
 use Rattle.pairing_heap.specs.Heap.{keys_at, LinksOnly}
 
 -- the links of the child, the parent and its former first child are those after the child was put first
@@ -53,6 +55,11 @@ module _ {X : Type 0} where
   abbrev pub solo : X → ℕ → Tree X → Tree X
   solo key slot children = node key slot children leaf
 
+  -- a list with its items in the other order, and a second one after it
+  abbrev pub turned : List (Tree X) → List (Tree X) → List (Tree X)
+  turned [] done = done
+  turned (a ∷ more) done = turned more (a ∷ done)
+
   -- the slot is the root of a heap with these children, whatever comes before or after it
   pub record IsRoot (precedes : X → X → Bool) (keys : ℕ → Option X) (links : ℕ → Links) (slot : ℕ) (key : X) (children : Tree X) : Type 0 where
     pub keyed : keys slot ≡ Some key
@@ -83,6 +90,7 @@ module _ {V X : Type 0} (k : ℕ) (key_of : V → X) (precedes : X → X → Boo
     pub key : X
     pub children : Tree X
     pub rooted : IsRoot precedes (keys_at key_of new) (links_at new k) root key children
+    pub becomes : solo key root children ≡ melded precedes (solo both.a_key a both.a_children) (solo both.b_key b both.b_children)
     pub nodes : (test : X × ℕ → Bool) → tally test (solo key root children) ≡ tally test (solo both.a_key a both.a_children) + tally test (solo both.b_key b both.b_children)
     pub next : (links_at new k root).next ≡ (links_at old k root).next
     pub prev : (links_at new k root).prev ≡ (links_at old k root).prev
@@ -110,9 +118,16 @@ module _ {V X : Type 0} (k : ℕ) (key_of : V → X) (precedes : X → X → Boo
   abbrev pub split_tally : (arena : Arena V) (top : ℕ) (rest : Option ℕ) → Split arena top rest → (X × ℕ → Bool) → ℕ
   split_tally arena top rest split test = tally test (solo split.key top split.children) + tally test split.left
 
+  -- the heaps of a root and of the chain after it
+  abbrev pub split_heaps : (arena : Arena V) (top : ℕ) (rest : Option ℕ) → Split arena top rest → List (Tree X)
+  split_heaps arena top rest split = solo split.key top split.children ∷ heaps split.left
+
   -- the first of the chain went into the root's heap
   pub record Resplits (old new : Arena V) (top other later : ℕ) (rest : Option ℕ) (was : Split old top (Some other)) : Type 0 where
     pub now : Split new later rest
+    pub second : Tree X
+    pub before : heaps was.left ≡ second ∷ heaps now.left
+    pub becomes : solo now.key later now.children ≡ melded precedes (solo was.key top was.children) second
     pub nodes : (test : X × ℕ → Bool) → split_tally new later rest now test ≡ split_tally old top (Some other) was test
     pub less : tally (λ _. true) now.left < tally (λ _. true) was.left
     pub fewer : 1 + siblings now.left ≡ siblings was.left
@@ -121,6 +136,7 @@ module _ {V X : Type 0} (k : ℕ) (key_of : V → X) (precedes : X → X → Boo
   -- the first one or two of the chain became one root
   pub record Pairs (old new : Arena V) (first later : ℕ) (rest : Option ℕ) (was : Chained old (Some first)) : Type 0 where
     pub now : Split new later rest
+    pub pairs : paired precedes (heaps was.tree) ≡ solo now.key later now.children ∷ paired precedes (heaps now.left)
     pub nodes : (test : X × ℕ → Bool) → split_tally new later rest now test ≡ tally test was.tree
     pub less : tally (λ _. true) now.left < tally (λ _. true) was.tree
     pub fewer : siblings now.left ≡ siblings was.tree - 2
@@ -129,6 +145,7 @@ module _ {V X : Type 0} (k : ℕ) (key_of : V → X) (precedes : X → X → Boo
   -- the chain became a root and a chain of the same nodes, with one root less for each comparison
   pub record Folds (old new : Arena V) (first : Option ℕ) (top : ℕ) (rest : Option ℕ) (was : Chained old first) (start steps : ℕ) : Type 0 where
     pub now : Split new top rest
+    pub folds : fold (melded precedes) leaf (split_heaps new top rest now) ≡ fold (melded precedes) leaf (heaps was.tree)
     pub some : 1 ≤ siblings was.tree
     pub spent : steps + (1 + siblings now.left) ≡ start + siblings was.tree
     pub nodes : (test : X × ℕ → Bool) → split_tally new top rest now test ≡ tally test was.tree
@@ -140,38 +157,33 @@ module _ {V X : Type 0} (k : ℕ) (key_of : V → X) (precedes : X → X → Boo
     pub ready : Tree X
     pub left_chain : IsChain precedes (keys_at key_of new) (links_at new k) rest left
     pub ready_chain : IsChain precedes (keys_at key_of new) (links_at new k) done ready
+    pub pairs : turned (paired precedes (heaps left)) (heaps ready) ≡ turned (paired precedes (heaps was.tree)) []
     pub half : siblings ready + (siblings left + 1) / 2 ≡ (siblings was.tree + 1) / 2
     pub spent : steps + (siblings left + siblings ready) ≡ start + siblings was.tree
     pub nodes : (test : X × ℕ → Bool) → tally test left + tally test ready ≡ tally test was.tree
     pub kept : LinksOnly k old new (λ slot. slot_count slot was.tree)
 
-  -- the chain became another of the same nodes, with half as many roots
+  -- the chain became another of the same nodes, that of its pairs, the last pair first
   pub record Rechains (old new : Arena V) (first later : Option ℕ) (was : Chained old first) : Type 0 where
     pub tree : Tree X
     pub chain : IsChain precedes (keys_at key_of new) (links_at new k) later tree
+    pub pairs : heaps tree ≡ turned (paired precedes (heaps was.tree)) []
     pub half : siblings tree ≡ (siblings was.tree + 1) / 2
     pub nodes : (test : X × ℕ → Bool) → tally test tree ≡ tally test was.tree
     pub kept : LinksOnly k old new (λ slot. slot_count slot was.tree)
 
-  -- the chain became one heap of the same nodes
-  pub record Merges (old new : Arena V) (first root : Option ℕ) (was : Chained old first) : Type 0 where
+  -- the chain became one heap of the same nodes, this one
+  pub record Merges (old new : Arena V) (first root : Option ℕ) (was : Chained old first) (one : Tree X) : Type 0 where
     pub tree : Tree X
+    pub is : tree ≡ one
     pub heap : IsHeap precedes (keys_at key_of new) (links_at new k) root tree
     pub nodes : (test : X × ℕ → Bool) → tally test tree ≡ tally test was.tree
     pub kept : LinksOnly k old new (λ slot. slot_count slot was.tree)
 
-  -- the chain became one of half as many roots first, and that became one heap
-  pub record MergesInPairs (old new : Arena V) (first root : Option ℕ) (was : Chained old first) : Type 0 where
-    pub middle : Arena V
-    pub paired : Option ℕ
-    pub chained : Chained middle paired
-    pub half : siblings chained.tree ≡ (siblings was.tree + 1) / 2
-    pub nodes : (test : X × ℕ → Bool) → tally test chained.tree ≡ tally test was.tree
-    pub merges : Merges middle new paired root chained
-
-  -- the chain went into the root's heap
+  -- the chain went into the root's heap, its heaps melded in pairs first and the pairs into one
   pub record Joins (old new : Arena V) (root : ℕ) (children : Option ℕ) (result : ℕ) (was : Split old root children) : Type 0 where
     pub tree : Tree X
     pub heap : IsHeap precedes (keys_at key_of new) (links_at new k) (Some result) tree
+    pub becomes : tree ≡ melded precedes (solo was.key root was.children) (folded precedes (paired precedes (heaps was.left)))
     pub nodes : (test : X × ℕ → Bool) → tally test tree ≡ split_tally old root children was test
     pub kept : LinksOnly k old new (λ slot. split_tally old root children was (λ pair. pair.1 == slot))

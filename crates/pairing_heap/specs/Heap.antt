@@ -1,7 +1,7 @@
 -- What contracts say of a heap: with its arena, it is a list of keys and slots.
-use Rattle.std.specs.Prelude.{◌≡◌, ◌≢◌, ℕ, ◌+◌, ◌<◌, ◌≤◌, Bool, false, List, ◌∷◌, length, Option, Some, None, count_by, ◌==◌, All}
+use Rattle.std.specs.Prelude.{◌≡◌, ◌≢◌, ℕ, ◌+◌, ◌<◌, ◌≤◌, Bool, List, [], ◌∷◌, length, Option, Some, None, count_by, ◌==◌}
 use Rattle.link_arena.specs.Arena.{Arena, value_at, links_at, unlinked}
-use Rattle.pairing_heap.specs.Tree.{Tree, pairs, tree_from, IsHeap}
+use Rattle.pairing_heap.specs.Tree.{Tree, pairs, slots, tree_from, IsHeap}
 
 -- the lists have the same elements, each as often: every test counts as many in both
 abbrev pub SameElements : {X : Type 0} → List X → List X → Type 0
@@ -15,6 +15,11 @@ times_of xs slot = count_by (λ pair. pair.1 == slot) xs
 abbrev pub key_of_value : {V X : Type 0} → (V → X) → Option V → Option X
 key_of_value key_of None = None
 key_of_value key_of (Some value) = Some (key_of value)
+
+-- the first slot of a list, if there is one
+abbrev pub first_slot : List ℕ → Option ℕ
+first_slot [] = None
+first_slot (slot ∷ more) = Some slot
 
 -- values, spare slots, the other link set, and the links of set k at each slot that stands nowhere here stay
 pub record LinksOnly {V : Type 0} (k : ℕ) (old new : Arena V) (times : ℕ → ℕ) : Type 0 where
@@ -41,6 +46,10 @@ module _ {V X : Type 0} where
   -- the heap's list of keys and slots
   abbrev pub pairs_at : ℕ → (V → X) → Arena V → Option ℕ → List (X × ℕ)
   pairs_at k key_of a root = pairs (tree_at k key_of a root)
+
+  -- the heap's slots in the order of a walk: each before those below it, and these before those of its siblings after it
+  abbrev pub slots_at : ℕ → (V → X) → Arena V → Option ℕ → List ℕ
+  slots_at k key_of a root = slots (tree_at k key_of a root)
 
   -- the heap stands in the arena: its links of set k join live slots in heap order
   pub record Stands (k : ℕ) (key_of : V → X) (precedes : X → X → Bool) (a : Arena V) (root : Option ℕ) : Type 0 where
@@ -70,12 +79,6 @@ module _ {V X : Type 0} where
   pub record SameSlots (k : ℕ) (key_of : V → X) (old new : Arena V) (root : Option ℕ) : Type 0 where
     pub keys : (slot : ℕ) → Holds k key_of old root slot → keys_at key_of new slot ≡ keys_at key_of old slot
     pub links : (slot : ℕ) → Holds k key_of old root slot → links_at new k slot ≡ links_at old k slot
-
-  -- no pair of the heap precedes that of its first slot
-  abbrev pub IsLeast : ℕ → (V → X) → (X → X → Bool) → Arena V → Option ℕ → ℕ → Type 0
-  IsLeast k key_of precedes a root slot =
-      (key : X) → keys_at key_of a slot ≡ Some key
-      → All (λ pair. precedes pair.0 key ≡ false) (pairs_at k key_of a root)
 
   -- the heap has one pair more, that of the slot; the rest stays
   pub record AddsPair (k : ℕ) (key_of : V → X) (precedes : X → X → Bool) (old new : Arena V) (heap later : Option ℕ) (slot : ℕ) : Type 0 where

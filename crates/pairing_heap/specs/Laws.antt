@@ -1,12 +1,16 @@
 -- What stays of a heap where the arena changes, and how often slots stand in it where a pair comes or goes.
-use Rattle.std.specs.Prelude.{◌≡◌, ◌≢◌, ℕ, ◌+◌, ◌≤◌, Bool, false, [], Option, Some, IsNone, IfSome, length, ◌==◌, if◌then◌else◌, ◌↔◌}
+use Rattle.std.specs.Prelude.{◌≡◌, ◌≢◌, ℕ, ◌+◌, ◌<◌, ◌≤◌, Bool, false, [], Option, Some, None, IsNone, IfSome, length, count_by, ◌==◌, if◌then◌else◌, ◌↔◌}
 use Rattle.link_arena.specs.Arena.{Arena, IsLive, SameMap, Inserts, Removes, Revalues}
-use Rattle.pairing_heap.specs.Heap.{times_of, keys_at, LinksOnly, RevaluesOnly, pairs_at, Stands, Holds, Lacks, SameSlots, AddsPair, TakesPair, RekeysPair, ClearsSlots}
+use Rattle.pairing_heap.specs.Heap.{times_of, keys_at, LinksOnly, RevaluesOnly, pairs_at, slots_at, first_slot, Stands, Holds, Lacks, SameSlots, AddsPair, TakesPair, RekeysPair, ClearsSlots}
 
 module _ {V X : Type 0} (k : ℕ) (key_of : V → X) (precedes : X → X → Bool) where
   -- each slot of a heap holds a value
   abbrev pub HeldAreLive : Type 0
   HeldAreLive = (a : Arena V) (heap : Option ℕ) (slot : ℕ) → Stands k key_of precedes a heap → Holds k key_of a heap slot → IsLive a slot
+
+  -- the empty heap stands in every arena
+  abbrev pub StandsWhenEmpty : Type 0
+  StandsWhenEmpty = k < 2 → (a : Arena V) → Stands k key_of precedes a None
 
   -- no slot stands twice in a heap
   abbrev pub SlotsStandOnce : Type 0
@@ -119,6 +123,14 @@ module _ {V X : Type 0} (k : ℕ) (key_of : V → X) (precedes : X → X → Boo
     pub none : IsNone heap ↔ (pairs_at k key_of a heap ≡ [])
     pub held : IfSome heap (λ slot. Holds k key_of a heap slot)
     pub least : (slot other : ℕ) (key rival : X) → heap ≡ Some slot → keys_at key_of a slot ≡ Some key → Holds k key_of a heap other → keys_at key_of a other ≡ Some rival → precedes rival key ≡ false
+
+  -- a walk begins with the first slot of the heap
+  abbrev pub WalkBeginsWithFirst : Type 0
+  WalkBeginsWithFirst = (a : Arena V) (heap : Option ℕ) → Stands k key_of precedes a heap → first_slot (slots_at k key_of a heap) ≡ heap
+
+  -- a walk comes to each slot as often as it stands in the heap
+  abbrev pub WalkCountsSlots : Type 0
+  WalkCountsSlots = (a : Arena V) (heap : Option ℕ) (slot : ℕ) → count_by (λ other. other == slot) (slots_at k key_of a heap) ≡ times_of (pairs_at k key_of a heap) slot
 
   -- the first slot of each heap is so
   abbrev pub FirstIsLeast : Type 0

@@ -13,6 +13,11 @@ module _ {X : Type 0} where
   pairs leaf = []
   pairs (node key slot children rest) = (key, slot) ∷ (pairs children ++ pairs rest)
 
+  -- the slots of the nodes, each before those below it, and these before those of its siblings after it
+  abbrev pub slots : Tree X → List ℕ
+  slots leaf = []
+  slots (node key slot children rest) = slot ∷ (slots children ++ slots rest)
+
   -- how many nodes pass a test of the key and the slot
   abbrev pub tally : (X × ℕ → Bool) → Tree X → ℕ
   tally test leaf = 0

@@ -1,7 +1,8 @@
-ghost use Rattle.std.specs.Prelude.{◌≡◌, ℕ, ◌+◌, ◌<◌, ◌≤◌, Some, None, IsTrue, ◌↔◌, IsSome, IsNone, IfSome, IfNone, [], length};
+ghost use Rattle.std.specs.Prelude.{◌≡◌, ℕ, ◌+◌, ◌≤◌, Some, None, IsTrue, ◌↔◌, IsNone, IfSome, IfNone, List, ◌∷◌, ◌++◌, length, vec_len, vec_capacity};
 
 use crate::clear::clear_from;
 use crate::meld::{add_root, take_root, take_slot};
+use crate::walk::{list_slots, next_slot};
 use crate::{Counted, Keyed, Steps};
 use link_arena::Arena;
 use std::marker::Model;
@@ -23,7 +24,9 @@ impl<const K: usize> Model for Heap<K> {
 
 impl<const K: usize> Heap<K> {
     ghost use Rattle.link_arena.specs.Arena.{IsLive, value_at};
-    ghost use Rattle.pairing_heap.specs.Heap.{Stands, Lacks, Holds, AddsPair, TakesPair, RekeysPair, pairs_at, IsLeast, SameSlots, ClearsSlots};
+    ghost use Rattle.pairing_heap.specs.Tree.{leaf, node};
+    ghost use Rattle.pairing_heap.specs.Melding.{melded, taken_out};
+    ghost use Rattle.pairing_heap.specs.Heap.{keys_at, Stands, Lacks, Holds, AddsPair, TakesPair, RekeysPair, tree_at, pairs_at, ClearsSlots, slots_at, first_slot};
 
     /// A heap with no entry.
     pub fn new() -> Heap<K>
@@ -39,37 +42,12 @@ impl<const K: usize> Heap<K> {
         self.root.is_none()
     }
 
-    /// The slot that no other precedes, as `peek_is_least` says.
+    /// The slot that no other precedes, as the law `first_is_least` says.
     pub fn peek(&self) -> Option<u32>
         ensures { result ≡ self.now }
     {
         self.root
     }
-
-    /// Makes no step: no pair of the heap precedes that of the slot that `peek` gives, and there is none exactly where
-    /// the heap is empty.
-    pub fn peek_is_least<V: Keyed<K>>(&self, _arena: &Arena<V>)
-        requires { Stands K V.key_of V.Key.precedes _arena.now self.now }
-        ensures none { IsNone self.now ↔ (pairs_at K V.key_of _arena.now self.now ≡ []) }
-        ensures held { IfSome self.now (λ slot. Holds K V.key_of _arena.now self.now slot) }
-        ensures least { IfSome self.now (λ slot. IsLeast K V.key_of V.Key.precedes _arena.now self.now slot) }
-    {}
-
-    /// Makes no step: the empty heap stands in every arena.
-    pub fn stands_when_empty<V: Keyed<K>>(&self, _arena: &Arena<V>)
-        requires set { K < 2 }
-        requires empty { self.now ≡ None }
-        ensures { Stands K V.key_of V.Key.precedes _arena.now self.now }
-    {}
-
-    /// Makes no step: a heap whose slots have the same keys and links in two arenas stands in the second where it stands
-    /// in the first.
-    pub fn stands_where_slots_stay<V: Keyed<K>>(&self, _before: &Arena<V>, _after: &Arena<V>)
-        requires stands { Stands K V.key_of V.Key.precedes _before.now self.now }
-        requires same { SameSlots K V.key_of _before.now _after.now self.now }
-        ensures stands { Stands K V.key_of V.Key.precedes _after.now self.now }
-        ensures pairs { pairs_at K V.key_of _after.now self.now ≡ pairs_at K V.key_of _before.now self.now }
-    {}
 
     /// Adds a slot, which holds a value and is in no heap of the set, with one comparison at most and none where the heap
     /// is empty.
@@ -85,6 +63,7 @@ impl<const K: usize> Heap<K> {
         requires live { IsLive arena.old slot }
         requires lacks { Lacks K V.key_of arena.old self.old slot }
         ensures adds { AddsPair K V.key_of V.Key.precedes arena.old arena.new self.old self.new slot }
+        ensures melds { (key : V.Key) → keys_at V.key_of arena.old slot ≡ Some key → tree_at K V.key_of arena.new self.new ≡ melded V.Key.precedes (tree_at K V.key_of arena.old self.old) (node key slot leaf leaf) }
         ensures ticks { steps.old ≤ steps.new }
         ensures most { steps.new ≤ steps.old + 1 }
         ensures first { self.old ≡ None → steps.new ≡ steps.old }
@@ -93,7 +72,7 @@ impl<const K: usize> Heap<K> {
     }
 
     /// Takes out what `peek` gives, whose links lead nowhere then. The root's children are melded in pairs from left to
-    /// right, and the pairs then into one.
+    /// right, and the pairs then from right to left into one.
     pub fn pop<V: Keyed<K>, L: Ledger>(
         &mut self,
         arena: &mut Arena<V>,
@@ -104,6 +83,7 @@ impl<const K: usize> Heap<K> {
         requires { Stands K V.key_of V.Key.precedes arena.old self.old }
         ensures first { result ≡ self.old }
         ensures takes { IfSome result (λ slot. TakesPair K V.key_of V.Key.precedes arena.old arena.new self.old self.new slot) }
+        ensures pairs { IfSome result (λ slot. tree_at K V.key_of arena.new self.new ≡ taken_out V.Key.precedes slot (tree_at K V.key_of arena.old self.old)) }
         ensures heap { IfNone result (self.new ≡ self.old) }
         ensures arena { IfNone result (arena.new ≡ arena.old) }
         ensures ticks { steps.old ≤ steps.new }
@@ -116,7 +96,8 @@ impl<const K: usize> Heap<K> {
         Some(root)
     }
 
-    /// Takes a slot out, from anywhere, by its links, which lead nowhere then.
+    /// Takes a slot out, from anywhere, by its links, which lead nowhere then. Its children are melded in pairs from left to
+    /// right, the pairs then from right to left into one, and that with the rest of the heap.
     pub fn remove<V: Keyed<K>, L: Ledger>(
         &mut self,
         arena: &mut Arena<V>,
@@ -128,10 +109,32 @@ impl<const K: usize> Heap<K> {
         requires stands { Stands K V.key_of V.Key.precedes arena.old self.old }
         requires held { Holds K V.key_of arena.old self.old slot }
         ensures takes { TakesPair K V.key_of V.Key.precedes arena.old arena.new self.old self.new slot }
+        ensures pairs { tree_at K V.key_of arena.new self.new ≡ taken_out V.Key.precedes slot (tree_at K V.key_of arena.old self.old) }
         ensures ticks { steps.old ≤ steps.new }
         ensures most { steps.new ≤ steps.old + length (pairs_at K V.key_of arena.old self.old) }
     {
         self.root = take_slot::<V, K, L>(arena, self.root, slot, steps);
+    }
+
+    /// The slot after one of the heap's in the order of a walk, which begins with what `peek` gives and comes to each slot
+    /// once. Nothing is compared or written, and a whole walk looks at each slot three times at most.
+    pub fn next<V: Keyed<K>>(&self, arena: &Arena<V>, slot: u32) -> Option<u32>
+        requires stands { Stands K V.key_of V.Key.precedes arena.now self.now }
+        requires held { Holds K V.key_of arena.now self.now slot }
+        ensures { (before after : List ℕ) → slots_at K V.key_of arena.now self.now ≡ before ++ (slot ∷ after) → result ≡ first_slot after }
+    {
+        next_slot::<V, K>(arena, self.root, slot)
+    }
+
+    /// Puts all slots of the heap, each once, at the end of a list that has room for them, in the order of a walk. Nothing
+    /// is compared, no memory is taken, and each slot is looked at four times at most.
+    pub fn list<V: Keyed<K>>(&self, arena: &Arena<V>, slots: &mut Vec<u32>)
+        requires stands { Stands K V.key_of V.Key.precedes arena.now self.now }
+        requires room { vec_len slots.old + length (pairs_at K V.key_of arena.now self.now) ≤ vec_capacity slots.old }
+        ensures lists { slots.new.items ≡ slots.old.items ++ slots_at K V.key_of arena.now self.now }
+        ensures room { vec_capacity slots.new ≡ vec_capacity slots.old }
+    {
+        list_slots::<V, K>(arena, self.root, slots);
     }
 
     /// Takes all slots out, whose links lead nowhere then. Nothing is compared, and each slot is looked at twice at most.
@@ -159,6 +162,7 @@ impl<const K: usize> Heap<K> {
         requires held { Holds K V.key_of arena.old self.old slot }
         ensures value { value_at arena.old slot ≡ Some result }
         ensures rekeys { RekeysPair K V.key_of V.Key.precedes arena.old arena.new self.old self.new slot v }
+        ensures melds { tree_at K V.key_of arena.new self.new ≡ melded V.Key.precedes (taken_out V.Key.precedes slot (tree_at K V.key_of arena.old self.old)) (node (V.key_of v) slot leaf leaf) }
         ensures ticks { steps.old ≤ steps.new }
         ensures most { steps.new ≤ steps.old + length (pairs_at K V.key_of arena.old self.old) + 1 }
     {

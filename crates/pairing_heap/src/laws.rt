@@ -1,12 +1,17 @@
 //! Laws of heaps, for whatever holds an arena. Each is the contract of a function that does nothing.
 
-ghost use Rattle.pairing_heap.specs.Laws.{HeldAreLive, SlotsStandOnce, StaysWhereSlotsStay, StaysWhereReserved, StaysWhereInserted, StaysWhereRemoved, StaysWhereRevalued, StaysWhereOtherSetChanges, AddsOneSlot, TakesOneSlot, AddedIsHeld, TakenIsLacked, RekeysNoSlot, StaysWhereKeyStays, AddsOnePair, TakesOnePair, RekeysNoPair, RekeysWherePushedAgain, RekeysWhereKeyStays, FirstIsLeast, AddedStaysApart, TakenStaysApart, RekeyedStaysApart, StaysWhereOtherSetRekeys, StaysWhereCleared};
+ghost use Rattle.pairing_heap.specs.Laws.{HeldAreLive, StandsWhenEmpty, WalkBeginsWithFirst, WalkCountsSlots, SlotsStandOnce, StaysWhereSlotsStay, StaysWhereReserved, StaysWhereInserted, StaysWhereRemoved, StaysWhereRevalued, StaysWhereOtherSetChanges, AddsOneSlot, TakesOneSlot, AddedIsHeld, TakenIsLacked, RekeysNoSlot, StaysWhereKeyStays, AddsOnePair, TakesOnePair, RekeysNoPair, RekeysWherePushedAgain, RekeysWhereKeyStays, FirstIsLeast, AddedStaysApart, TakenStaysApart, RekeyedStaysApart, StaysWhereOtherSetRekeys, StaysWhereCleared};
 
 use crate::{HeapKey, Keyed};
 
 /// Each slot of a heap holds a value.
 pub fn held_are_live<V: Keyed<K>, const K: usize>()
     ensures { HeldAreLive K V.key_of V.Key.precedes }
+{}
+
+/// The empty heap stands in every arena.
+pub fn stands_when_empty<V: Keyed<K>, const K: usize>()
+    ensures { StandsWhenEmpty K V.key_of V.Key.precedes }
 {}
 
 /// No slot stands twice in a heap.
@@ -102,6 +107,16 @@ pub fn rekeys_where_key_stays<V: Keyed<K>, const K: usize>()
 /// The first slot of a heap is one whose key no other precedes, and there is none exactly where the heap is empty.
 pub fn first_is_least<V: Keyed<K>, const K: usize>()
     ensures { FirstIsLeast K V.key_of V.Key.precedes }
+{}
+
+/// A walk by `next` begins with what `peek` gives.
+pub fn walk_begins_with_first<V: Keyed<K>, const K: usize>()
+    ensures { WalkBeginsWithFirst K V.key_of V.Key.precedes }
+{}
+
+/// A walk by `next` comes to each slot of a heap once, and to no other.
+pub fn walk_counts_slots<V: Keyed<K>, const K: usize>()
+    ensures { WalkCountsSlots K V.key_of V.Key.precedes }
 {}
 
 /// Two heaps share no slot still where a slot that the other lacks comes into the one.

@@ -9,6 +9,7 @@ mod meld;
 mod steps;
 #[cfg(test)]
 mod tests;
+mod walk;
 
 pub use heap::Heap;
 pub use key::{Counted, HeapKey, Keyed};

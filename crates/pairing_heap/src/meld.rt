@@ -1,7 +1,10 @@
 ghost use Rattle.std.specs.Prelude.{◌≡◌, ◌≢◌, ℕ, ◌+◌, ◌-◌, ◌/◌, ◌<◌, ◌≤◌, min, length, Some, None};
+ghost use Rattle.std.specs.List.{fold};
 ghost use Rattle.link_arena.specs.Arena.{IsLive, links_at, value_at, Relinks};
-ghost use Rattle.pairing_heap.specs.Chain.{Adopts, CanAdopt, CanUnhook, Unhooks, KeepsRest, CanMeld, Melds, Chained, Split, Resplits, Pairs, Rechains, Merges, MergesInPairs, Joins, siblings};
-ghost use Rattle.pairing_heap.specs.Heap.{keys_at, pairs_at, Stands, Holds, Lacks, AddsPair, TakesPair};
+ghost use Rattle.pairing_heap.specs.Chain.{Adopts, CanAdopt, CanUnhook, Unhooks, KeepsRest, CanMeld, Melds, Chained, Split, Resplits, Pairs, Rechains, Merges, Joins, siblings};
+ghost use Rattle.pairing_heap.specs.Tree.{leaf, node};
+ghost use Rattle.pairing_heap.specs.Melding.{heaps, melded, paired, folded, taken_out};
+ghost use Rattle.pairing_heap.specs.Heap.{keys_at, tree_at, pairs_at, Stands, Holds, Lacks, AddsPair, TakesPair};
 
 use crate::{Counted, HeapKey, Keyed, Steps};
 use link_arena::{Arena, Links};
@@ -42,6 +45,7 @@ where
     requires live { IsLive arena.old slot }
     requires lacks { Lacks K V.key_of arena.old heap slot }
     ensures adds { AddsPair K V.key_of V.Key.precedes arena.old arena.new heap (Some result) slot }
+    ensures melds { (key : V.Key) → keys_at V.key_of arena.old slot ≡ Some key → tree_at K V.key_of arena.new (Some result) ≡ melded V.Key.precedes (tree_at K V.key_of arena.old heap) (node key slot leaf leaf) }
     ensures ticks { steps.old ≤ steps.new }
     ensures most { steps.new ≤ steps.old + 1 }
     ensures first { heap ≡ None → steps.new ≡ steps.old }
@@ -63,6 +67,7 @@ where
     V::Key: Counted<L>,
     requires { Stands K V.key_of V.Key.precedes arena.old (Some root) }
     ensures takes { TakesPair K V.key_of V.Key.precedes arena.old arena.new (Some root) result root }
+    ensures pairs { tree_at K V.key_of arena.new result ≡ taken_out V.Key.precedes root (tree_at K V.key_of arena.old (Some root)) }
     ensures ticks { steps.old ≤ steps.new }
     ensures most { steps.new ≤ steps.old + length (pairs_at K V.key_of arena.old (Some root)) }
 {
@@ -83,6 +88,7 @@ where
     requires stands { Stands K V.key_of V.Key.precedes arena.old heap }
     requires held { Holds K V.key_of arena.old heap slot }
     ensures takes { TakesPair K V.key_of V.Key.precedes arena.old arena.new heap result slot }
+    ensures pairs { tree_at K V.key_of arena.new result ≡ taken_out V.Key.precedes slot (tree_at K V.key_of arena.old heap) }
     ensures ticks { steps.old ≤ steps.new }
     ensures most { steps.new ≤ steps.old + length (pairs_at K V.key_of arena.old heap) }
 {
@@ -107,6 +113,7 @@ where
     requires held { Holds K V.key_of arena.old (Some root) slot }
     requires below { root ≢ slot }
     ensures takes { TakesPair K V.key_of V.Key.precedes arena.old arena.new (Some root) (Some result) slot }
+    ensures pairs { tree_at K V.key_of arena.new (Some result) ≡ taken_out V.Key.precedes slot (tree_at K V.key_of arena.old (Some root)) }
     ensures ticks { steps.old ≤ steps.new }
     ensures most { steps.new ≤ steps.old + length (pairs_at K V.key_of arena.old (Some root)) }
 {
@@ -181,8 +188,7 @@ pub(crate) fn merge_children<V: Keyed<K>, const K: usize, L: Ledger>(
 where
     V::Key: Counted<L>,
     requires { Chained K V.key_of V.Key.precedes arena.old first }
-    ensures merges { (was : Chained K V.key_of V.Key.precedes arena.old first) → Merges K V.key_of V.Key.precedes arena.old arena.new first result was }
-    ensures pairs { (was : Chained K V.key_of V.Key.precedes arena.old first) → MergesInPairs K V.key_of V.Key.precedes arena.old arena.new first result was }
+    ensures merges { (was : Chained K V.key_of V.Key.precedes arena.old first) → Merges K V.key_of V.Key.precedes arena.old arena.new first result was (folded V.Key.precedes (paired V.Key.precedes (heaps was.tree))) }
     ensures ticks { (was : Chained K V.key_of V.Key.precedes arena.old first) → steps.new ≡ steps.old + (siblings was.tree - 1) }
 {
     let paired = pair_up::<V, K, L>(arena, first, steps);
@@ -232,7 +238,7 @@ where
     paired
 }
 
-/// Melds a chain of heaps into one.
+/// Melds a chain of heaps into one, from the first on.
 fn fold_up<V: Keyed<K>, const K: usize, L: Ledger>(
     arena: &mut Arena<V>,
     first: Option<u32>,
@@ -241,7 +247,7 @@ fn fold_up<V: Keyed<K>, const K: usize, L: Ledger>(
 where
     V::Key: Counted<L>,
     requires { Chained K V.key_of V.Key.precedes arena.old first }
-    ensures merges { (was : Chained K V.key_of V.Key.precedes arena.old first) → Merges K V.key_of V.Key.precedes arena.old arena.new first result was }
+    ensures merges { (was : Chained K V.key_of V.Key.precedes arena.old first) → Merges K V.key_of V.Key.precedes arena.old arena.new first result was (fold (melded V.Key.precedes) leaf (heaps was.tree)) }
     ensures ticks { (was : Chained K V.key_of V.Key.precedes arena.old first) → steps.new ≡ steps.old + (siblings was.tree - 1) }
 {
     let mut top = first?;

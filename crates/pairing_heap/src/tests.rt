@@ -1,6 +1,7 @@
 ghost use Rattle.std.specs.Prelude.{◌≡◌, ◌+◌, ◌<◌, ◌≤◌, None, nat_lt};
 ghost use Rattle.pairing_heap.specs.Heap.{Stands, Holds};
 
+use crate::laws::stands_when_empty;
 use crate::{Counted, Heap, HeapKey, Keyed, Steps};
 use link_arena::{Arena, Links};
 use std::alloc::Global;
@@ -90,8 +91,8 @@ fn enter_three<R: Abort, L: Ledger>(
     arena.reserve().expect(rt, "room");
     arena.reserve().expect(rt, "room");
     arena.reserve().expect(rt, "room");
-    left.stands_when_empty::<Sides>(arena);
-    right.stands_when_empty::<Sides>(arena);
+    stands_when_empty::<Sides, 0>();
+    stands_when_empty::<Sides, 1>();
     let a = enter(arena, left, right, Sides { left: 5, right: 1 }, steps);
     let b = enter(arena, left, right, Sides { left: 3, right: 2 }, steps);
     let c = enter(arena, left, right, Sides { left: 8, right: 3 }, steps);

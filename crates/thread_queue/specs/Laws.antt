@@ -1,15 +1,15 @@
 -- What stays of a queue where the arena changes, and what its first entry is among all its entries.
-use Rattle.std.specs.Prelude.{Contains, List, Some, ℕ, ◌≡◌, ◌≢◌, ◌≤◌}
+use Rattle.std.specs.Prelude.{Contains, List, Some, count_by, ℕ, ◌==◌, ◌≡◌, ◌≢◌, ◌≤◌}
 use Rattle.flat_policy.specs.Laws.Choice.{OrdersMembers}
 use Rattle.flat_policy.specs.Policy.Offer.{foreign_before}
 use Rattle.flat_policy.specs.Policy.Precedence.{precedes}
 use Rattle.flat_policy.specs.Policy.Queue.{Queued}
 use Rattle.flat_policy.specs.Policy.Unpreceded.{IsUnpreceded, unpreceded}
 use Rattle.link_arena.specs.Arena.{Arena, Inserts, IsLive, Removes as Frees, Revalues, SameMap, value_at}
-use Rattle.pairing_heap.specs.Heap.{LinksOnly, SameSlots}
+use Rattle.pairing_heap.specs.Heap.{LinksOnly, SameSlots, first_slot}
 use Rattle.pairing_heap.specs.Laws.{AreApart}
 use Rattle.thread_queue.specs.Item.{entry_of, foreign_key_of_item, foreign_precedes, key_of_item, key_precedes}
-use Rattle.thread_queue.specs.Queue.{Clears, HasSlot, IsFirst, LacksSlot, Pushes, Queue, Removes, Settles, StandsIn, members, times_in}
+use Rattle.thread_queue.specs.Queue.{Clears, HasSlot, IsFirst, LacksSlot, Pushes, Queue, Removes, Settles, StandsIn, members, times_in, walk_of}
 use Rattle.thread_queue.specs.declared.item.Item.{Item}
 
 -- each slot of a queue holds an item
@@ -41,6 +41,14 @@ StaysWhereRemoved = (old new : Arena Item) (slot : ℕ) → Frees old new slot �
 -- no slot stands twice in a queue
 abbrev pub SlotsStandOnce : Type 0
 SlotsStandOnce = (arena : Arena Item) (queue : Queue) → StandsIn arena queue → (slot : ℕ) → times_in arena queue slot ≤ 1
+
+-- a walk begins with the first slot of the queue
+abbrev pub WalkBeginsWithFirst : Type 0
+WalkBeginsWithFirst = (arena : Arena Item) (queue : Queue) → StandsIn arena queue → first_slot (walk_of arena queue) ≡ queue.root
+
+-- a walk comes to each slot as often as it stands in the queue
+abbrev pub WalkCountsSlots : Type 0
+WalkCountsSlots = (arena : Arena Item) (queue : Queue) (slot : ℕ) → count_by (λ other. other == slot) (walk_of arena queue) ≡ times_in arena queue slot
 
 -- a queue stays where the arena gets room
 abbrev pub StaysWhereReserved : Type 0
@@ -107,11 +115,12 @@ pub record AreEntries (arena : Arena Item) (queue : Queue) (entries : List Queue
   pub there : (slot : ℕ) (item : Item) → HasSlot arena queue slot → value_at arena slot ≡ Some item → Contains entries (entry_of item)
   pub back : (entry : Queued) → Contains entries entry → (slot : ℕ) × (item : Item) × (HasSlot arena queue slot × (value_at arena slot ≡ Some item) × (entry_of item ≡ entry))
 
--- the first entry of a queue is the one that no other of its entries precedes
+-- no entry of the list precedes this one, which is the list's choice
 pub record IsChosen (entries : List Queued) (entry : Queued) : Type 0 where
   pub first : IsUnpreceded precedes entries entry
   pub chosen : OrdersMembers precedes entries → unpreceded precedes entries ≡ Some entry
 
+-- where these are the entries of a queue, its first slot holds the one that no other precedes
 abbrev pub FirstIsChosen : Type 0
 FirstIsChosen =
     (arena : Arena Item) (queue : Queue) (entries : List Queued) (slot : ℕ) → AreEntries arena queue entries → (first : IsFirst arena queue slot) → IsChosen entries (entry_of first.item)

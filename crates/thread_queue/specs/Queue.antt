@@ -2,7 +2,7 @@
 use Rattle.std.specs.Prelude.{List, Option, false, if◌then◌else◌, length, Some, ℕ, ◌+◌, ◌==◌, ◌≡◌}
 use Rattle.flat_policy.specs.Policy.Precedence.{precedes}
 use Rattle.link_arena.specs.Arena.{Arena, links_at, value_at}
-use Rattle.pairing_heap.specs.Heap.{AddsPair, ClearsSlots, Holds, IsApart, Lacks, RekeysPair, Stands, TakesPair, pairs_at, times_of}
+use Rattle.pairing_heap.specs.Heap.{AddsPair, ClearsSlots, Holds, IsApart, Lacks, RekeysPair, Stands, TakesPair, pairs_at, slots_at, times_of}
 use Rattle.thread_queue.specs.Item.{entry_of, key_of_item, key_precedes, settled_item}
 use Rattle.thread_queue.specs.declared.item.Item.{Item}
 use Rattle.thread_queue.specs.declared.item.ItemKey.{ItemKey}
@@ -15,6 +15,10 @@ pub record Queue : Type 0 where
 -- the queue's keys and slots
 abbrev pub members : Arena Item → Queue → List (ItemKey × ℕ)
 members arena queue = pairs_at 0 key_of_item arena queue.root
+
+-- the queue's slots in the order of a walk
+abbrev pub walk_of : Arena Item → Queue → List ℕ
+walk_of arena queue = slots_at 0 key_of_item arena queue.root
 
 -- how often a slot stands in the queue
 abbrev pub times_in : Arena Item → Queue → ℕ → ℕ

@@ -1,6 +1,6 @@
 //! Laws of queues, for whatever holds an arena. Each is the contract of a function that does nothing.
 
-ghost use Rattle.thread_queue.specs.Laws.{SlotsAreLive, StaysWhereSlotsStay, StaysWhereInserted, StaysWhereRemoved, FirstIsChosen, ForeignKeysOrderEntries, ItemKeysOrderEntries, SlotsStandOnce, StaysWhereReserved, StaysWhereOtherSetChanges, StaysWhereRevalued, StaysWhereKeyStays, PushedIsHeld, RemovedIsLacked, PushedStaysApart, RemovedStaysApart, SettledStaysApart, StaysWhereCleared};
+ghost use Rattle.thread_queue.specs.Laws.{SlotsAreLive, WalkBeginsWithFirst, WalkCountsSlots, StaysWhereSlotsStay, StaysWhereInserted, StaysWhereRemoved, FirstIsChosen, ForeignKeysOrderEntries, ItemKeysOrderEntries, SlotsStandOnce, StaysWhereReserved, StaysWhereOtherSetChanges, StaysWhereRevalued, StaysWhereKeyStays, PushedIsHeld, RemovedIsLacked, PushedStaysApart, RemovedStaysApart, SettledStaysApart, StaysWhereCleared};
 
 use crate::Item;
 use pairing_heap::laws as heaps;
@@ -53,6 +53,20 @@ pub fn slots_stand_once()
     ensures { SlotsStandOnce }
 {
     heaps::slots_stand_once::<Item, 0>();
+}
+
+/// A walk by `next` begins with what `first` gives.
+pub fn walk_begins_with_first()
+    ensures { WalkBeginsWithFirst }
+{
+    heaps::walk_begins_with_first::<Item, 0>();
+}
+
+/// A walk by `next` comes to each slot of a queue once, and to no other.
+pub fn walk_counts_slots()
+    ensures { WalkCountsSlots }
+{
+    heaps::walk_counts_slots::<Item, 0>();
 }
 
 /// A queue stays where the arena gets room.

@@ -1,9 +1,10 @@
-ghost use Rattle.std.specs.Prelude.{◌≡◌, ℕ, ◌+◌, ◌<◌, ◌≤◌, Some, None, ◌↔◌, IsNone, IfSome, []};
+ghost use Rattle.std.specs.Prelude.{◌≡◌, ℕ, ◌+◌, ◌<◌, ◌≤◌, Some, None, ◌↔◌, IsNone, IfSome, List, [], ◌∷◌, ◌++◌, vec_len, vec_capacity};
 ghost use Rattle.link_arena.specs.Arena.{Arena as Map, IsLive, value_at, Revalues};
 ghost use Rattle.pairing_heap.specs.Laws.{HeldAreLive, FirstIsLeast, AddsOneSlot, AddsOnePair, TakesOneSlot, TakesOnePair, TakenIsLacked, StaysWhereRevalued, RekeysNoSlot, RekeysNoPair, RekeysWherePushedAgain, RekeysWhereKeyStays};
 ghost use Rattle.thread_queue.specs.Item.{key_of_item, key_precedes, settled_item};
 ghost use Rattle.thread_queue.specs.declared.item.Item.{Item as Stored};
-ghost use Rattle.thread_queue.specs.Queue.{StandsIn, HasSlot, LacksSlot, IsFirst, Pushes, Removes, Settles, StaysInPlace, Clears, members};
+ghost use Rattle.thread_queue.specs.Queue.{StandsIn, HasSlot, LacksSlot, IsFirst, Pushes, Removes, Settles, StaysInPlace, Clears, members, walk_of};
+ghost use Rattle.pairing_heap.specs.Heap.{first_slot};
 
 use crate::Item;
 use link_arena::Arena;
@@ -57,6 +58,27 @@ impl ThreadQueue {
     {
         heap_laws();
         self.heap.peek()
+    }
+
+    /// The slot after one of the queue's in the order of a walk, which begins with what `first` gives and comes to each slot
+    /// once. Nothing is compared or written.
+    pub fn next(&self, arena: &Arena<Item>, slot: u32) -> Option<u32>
+        requires stands { StandsIn arena.now self.now }
+        requires held { HasSlot arena.now self.now slot }
+        ensures { (before after : List ℕ) → walk_of arena.now self.now ≡ before ++ (slot ∷ after) → result ≡ first_slot after }
+    {
+        self.heap.next(arena, slot)
+    }
+
+    /// Puts all slots of the queue, each once, at the end of a list that has room for them, in the order of a walk. Nothing is
+    /// compared, and no memory is taken.
+    pub fn list(&self, arena: &Arena<Item>, slots: &mut Vec<u32>)
+        requires stands { StandsIn arena.now self.now }
+        requires room { vec_len slots.old + self.now.count ≤ vec_capacity slots.old }
+        ensures lists { slots.new.items ≡ slots.old.items ++ walk_of arena.now self.now }
+        ensures room { vec_capacity slots.new ≡ vec_capacity slots.old }
+    {
+        self.heap.list(arena, slots);
     }
 
     /// Adds a slot, which holds an item and is in no queue, with one comparison at most and none where the queue is

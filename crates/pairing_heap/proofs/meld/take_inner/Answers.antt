@@ -1,6 +1,6 @@
 -- The slot's children become one heap, which is melded with the rest.
 use Rattle.std.proofs.Common.{sym, ap, is_some, ◌∙◌}
-use Rattle.pairing_heap.proofs.Removing.{inner_held, some_before, before_inner, live_inner, CanUnhook-inner, Outside-written, Takes-inner-at, Spent-at, Split-at}
+use Rattle.pairing_heap.proofs.Removing.{inner_held, some_before, before_inner, live_inner, CanUnhook-inner, Outside-written, Takes-inner-at, Takes-inner-paired-at, Spent-at, Split-at}
 use Rattle.pairing_heap.proofs.meld.take_inner.Goals as goal
 
 pub links-links-requires-clause-live : goal.links-links-requires-clause-live
@@ -34,6 +34,13 @@ pub returns-clause-takes : goal.returns-clause-takes
 returns-clause-takes g c =
     let prev_is = sym (ap (λ l. l.prev) c.links-links.ensures) ∙ c.unwrap-pred.ensures in
     Takes-inner-at g.row.K g.V.Keyed.key_of g.V.Key.HeapKey.precedes c.args.arena.now c.set_links.new.self c.join_children.new.arena c.args.root c.args.slot c.join_children.result c.links-links.result.child (sym (ap (λ l. l.child) c.links-links.ensures)) c.requires.stands
+    (Outside-written g.row.K g.V.Keyed.key_of g.V.Key.HeapKey.precedes c.args.arena.now c.unhook.new.arena c.set_links.new.self c.args.root c.args.slot c.unwrap-pred.result c.requires.stands c.requires.held c.requires.below prev_is c.unhook.ensures.links c.unhook.ensures.rest c.set_links.ensures.relinks c.set_links.ensures.spare)
+    c.join_children.ensures.joins
+
+pub returns-clause-pairs : goal.returns-clause-pairs
+returns-clause-pairs g c =
+    let prev_is = sym (ap (λ l. l.prev) c.links-links.ensures) ∙ c.unwrap-pred.ensures in
+    Takes-inner-paired-at g.row.K g.V.Keyed.key_of g.V.Key.HeapKey.precedes c.args.arena.now c.set_links.new.self c.join_children.new.arena c.args.root c.args.slot c.join_children.result c.links-links.result.child (sym (ap (λ l. l.child) c.links-links.ensures))
     (Outside-written g.row.K g.V.Keyed.key_of g.V.Key.HeapKey.precedes c.args.arena.now c.unhook.new.arena c.set_links.new.self c.args.root c.args.slot c.unwrap-pred.result c.requires.stands c.requires.held c.requires.below prev_is c.unhook.ensures.links c.unhook.ensures.rest c.set_links.ensures.relinks c.set_links.ensures.spare)
     c.join_children.ensures.joins
 

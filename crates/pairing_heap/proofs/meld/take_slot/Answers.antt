@@ -1,6 +1,7 @@
 -- The slot is the root, or it stands below the root.
-use Rattle.std.proofs.Common.{sym, ap, subst, arith, length, ℕ, Option, Some}
-use Rattle.pairing_heap.specs.Heap.{Stands, Holds, TakesPair, pairs_at}
+use Rattle.std.proofs.Common.{sym, ap, subst, ◌∙◌, arith, length, ℕ, Option, Some}
+use Rattle.pairing_heap.specs.Melding.{taken_out}
+use Rattle.pairing_heap.specs.Heap.{Stands, Holds, TakesPair, tree_at, pairs_at}
 use Rattle.pairing_heap.proofs.Removing.{some_held}
 use Rattle.pairing_heap.proofs.meld.take_slot.Goals as goal
 
@@ -24,6 +25,17 @@ returns-then-root-slot-clause-takes g c =
 pub returns-else-root-slot-clause-takes : goal.returns-else-root-slot-clause-takes
 returns-else-root-slot-clause-takes g c =
     subst (λ (h : Option ℕ). TakesPair g.row.K g.V.Keyed.key_of g.V.Key.HeapKey.precedes c.args.arena.now c.take_inner.new.arena h (Some c.take_inner.result) c.args.slot) (sym c.unwrap-root.ensures) c.take_inner.ensures.takes
+
+pub returns-then-root-slot-clause-pairs : goal.returns-then-root-slot-clause-pairs
+returns-then-root-slot-clause-pairs g c =
+    c.take_root.ensures.pairs
+    ∙ ap (λ (s : ℕ). taken_out g.V.Key.HeapKey.precedes s (tree_at g.row.K g.V.Keyed.key_of c.args.arena.now (Some c.unwrap-root.result))) c.if-root-slot.true
+    ∙ ap (λ (h : Option ℕ). taken_out g.V.Key.HeapKey.precedes c.args.slot (tree_at g.row.K g.V.Keyed.key_of c.args.arena.now h)) (sym c.unwrap-root.ensures)
+
+pub returns-else-root-slot-clause-pairs : goal.returns-else-root-slot-clause-pairs
+returns-else-root-slot-clause-pairs g c =
+    c.take_inner.ensures.pairs
+    ∙ ap (λ (h : Option ℕ). taken_out g.V.Key.HeapKey.precedes c.args.slot (tree_at g.row.K g.V.Keyed.key_of c.args.arena.now h)) (sym c.unwrap-root.ensures)
 
 pub returns-then-root-slot-clause-most : goal.returns-then-root-slot-clause-most
 returns-then-root-slot-clause-most g c =

@@ -1,7 +1,8 @@
 -- The slot is taken out, gets its value, and is pushed again.
 use Rattle.std.proofs.Common.{ap, is_some, ◌∙◌, lit<}
-use Rattle.pairing_heap.specs.Heap.{times_of}
-use Rattle.pairing_heap.proofs.Rekeying.{Rekeys, Lacks-taken, Stands-revalued, live_held}
+use Rattle.pairing_heap.specs.Melding.{taken_out}
+use Rattle.pairing_heap.specs.Heap.{times_of, tree_at}
+use Rattle.pairing_heap.proofs.Rekeying.{Rekeys, Rekeys-tree, Lacks-taken, Stands-revalued, live_held}
 use Rattle.pairing_heap.proofs.heap.Heap.rekey.Goals as goal
 
 pub replace-old-requires : goal.replace-old-requires
@@ -19,3 +20,9 @@ pub returns-clause-rekeys : goal.returns-clause-rekeys
 returns-clause-rekeys g c =
     let live = live_held g.row.K g.V.Keyed.key_of g.V.Key.HeapKey.precedes c.args.arena.now c.args.self.now c.args.slot c.requires.stands c.requires.held in
     Rekeys g.row.K g.V.Keyed.key_of g.V.Key.HeapKey.precedes _ _ _ _ _ _ _ c.args.slot c.args.v live c.requires.stands c.remove.ensures.takes c.replace-old.ensures.revalues c.replace-old.ensures.spare c.push.ensures.adds
+
+pub returns-clause-melds : goal.returns-clause-melds
+returns-clause-melds g c =
+    let live = live_held g.row.K g.V.Keyed.key_of g.V.Key.HeapKey.precedes c.args.arena.now c.args.self.now c.args.slot c.requires.stands c.requires.held in
+    let lacks = Lacks-taken g.row.K g.V.Keyed.key_of g.V.Key.HeapKey.precedes _ _ _ _ c.args.slot live c.requires.stands c.remove.ensures.takes in
+    Rekeys-tree g.row.K g.V.Keyed.key_of g.V.Key.HeapKey.precedes c.remove.new.arena c.replace-old.new.self c.push.new.arena c.remove.new.self c.push.new.self c.args.slot c.args.v (taken_out g.V.Key.HeapKey.precedes c.args.slot (tree_at g.row.K g.V.Keyed.key_of c.args.arena.now c.args.self.now)) c.replace-old.ensures.revalues c.remove.ensures.takes.stands lacks c.remove.ensures.pairs c.push.ensures.melds
