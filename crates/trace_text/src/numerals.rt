@@ -1,10 +1,32 @@
 //! Numerals.
 
-ghost use Rattle.std.specs.Prelude.{◌≡◌, ◌≤◌, ◌+◌, ◌*◌, ℕ, IsTrue};
-ghost use Rattle.flat_policy.specs.Texts.Pieces.{number_within, is_digit, digit_value};
+ghost use Rattle.std.specs.Prelude.{◌≡◌, ◌≤◌, ◌+◌, ◌*◌, ℕ, IsTrue, length, take, true};
+ghost use Rattle.std.specs.List.{list_all};
+ghost use Rattle.flat_policy.specs.Texts.Pieces.{number_within, is_digit, digit_value, numeral_value};
 ghost use Rattle.trace_text.specs.Reading.{Gives, within_64, digits_read};
 
 use flat_policy::texts::LineFault;
+
+/// Below this a number may have one more digit in 64 bits.
+const ROOM_FOR_A_DIGIT: u64 = 1_000_000_000_000_000_000;
+
+/// The number that the digits at the front write, and how many they are: all of them, or as many as
+/// 64 bits surely hold.
+#[inline(always)]
+pub fn leading_number(text: &[u8]) -> (u64, usize)
+    ensures within { result.1 ≤ length text.now }
+    ensures digits { list_all is_digit (take result.1 text.now) ≡ true }
+    ensures value { result.0 ≡ numeral_value (take result.1 text.now) }
+{
+    let mut number: u64 = 0;
+    for (count, b) in text.iter().enumerate() {
+        if !b.is_ascii_digit() || number >= ROOM_FOR_A_DIGIT {
+            return (number, count);
+        }
+        number = number * 10 + u64::from(*b - b'0');
+    }
+    (number, text.len())
+}
 
 /// A number and one more digit; `None` where it passes 64 bits.
 fn with_digit(number: Option<u64>, digit: u8) -> Option<u64>

@@ -1,11 +1,12 @@
 //! The pieces of a line, one after the other.
 
-ghost use Rattle.std.specs.Prelude.{◌≡◌, ◌∷◌, ◌↔◌, [], IfSome, IfNone, IsTrue};
+ghost use Rattle.std.specs.Prelude.{◌≡◌, ◌∷◌, ◌↔◌, [], IfSome, IfNone, IsTrue, false, true};
 ghost use Rattle.std.specs.Option.{option_copied};
 ghost use Rattle.flat_policy.specs.Texts.Pieces.{pieces, next_piece, at_end};
-ghost use Rattle.trace_text.specs.Reading.{Gives, left, as_it_is, piece_among};
-ghost use Rattle.trace_text.specs.Spaces.{IsFirstSpace, HasNoSpace};
+ghost use Rattle.trace_text.specs.Reading.{BeginsPlain, Follows, Gives, IsNumberNext, left, as_it_is, is_next, piece_among};
+ghost use Rattle.trace_text.specs.Spaces.{IsFirstSpace, HasNoSpace, is_plain};
 
+use crate::numerals::leading_number;
 use flat_policy::texts::LineFault;
 
 /// What is left of a line, from the start of a piece on; nothing after the last piece.
@@ -50,6 +51,47 @@ pub fn next(pieces: Pieces<'_>) -> Result<(&[u8], Pieces<'_>), LineFault>
         Some(text) => Ok(split(text)),
         None => Err(LineFault::Word),
     }
+}
+
+/// What stands behind a piece: nothing, or a space and the next piece.
+#[inline(always)]
+fn behind(text: &[u8]) -> Option<Pieces<'_>>
+    ensures some { IfSome result (λ rest. Follows text.now (left rest)) }
+    ensures none { IfNone result (BeginsPlain text.now) }
+{
+    match text {
+        [] => Some(Pieces { rest: None }),
+        [b' ', others @ ..] => {
+            let rest = Some(others);
+            Some(Pieces { rest })
+        }
+        _ => None,
+    }
+}
+
+/// The pieces behind a word that is the next piece; `None` exactly where another piece is the next.
+#[inline(always)]
+pub fn behind_word<'a>(text: &'a [u8], word: &[u8]) -> Option<Pieces<'a>>
+    requires { is_plain word.now ≡ true }
+    ensures found { IfSome result (λ rest. pieces text.now ≡ word.now ∷ left rest) }
+    ensures none { IfNone result (is_next word.now (pieces text.now) ≡ false) }
+{
+    behind(text.strip_prefix(word)?)
+}
+
+/// The number that the next piece writes, and the pieces behind it; `None` where that piece is no
+/// numeral, and where it is one of more than 18 digits.
+#[inline(always)]
+pub fn next_number(pieces: Pieces<'_>) -> Option<(u64, Pieces<'_>)>
+    ensures { IfSome result (λ x. IsNumberNext (left pieces.entry) x.0 (left x.1)) }
+{
+    let text = pieces.rest?;
+    let (number, count) = leading_number(text);
+    if count == 0 || (count > 1 && text[0] == b'0') {
+        return None;
+    }
+    let rest = behind(&text[count..])?;
+    Some((number, rest))
 }
 
 /// Whether no piece is left.

@@ -1,0 +1,100 @@
+//! Bytes and numbers, put into a buffer from an index on. Each call answers the index behind them.
+
+ghost use Rattle.std.specs.Prelude.{◌≡◌, ◌≤◌, ◌<◌, ◌+◌, ◌++◌, ◌∷◌, [], decimal, length, take};
+
+use itoa::write_digits;
+
+/// Puts bytes.
+#[inline(always)]
+pub fn put(room: &mut [u8], at: usize, bytes: &[u8]) -> usize
+    requires { at + length bytes.now ≤ length room.old }
+    ensures text { take result room.new ≡ take at room.old ++ bytes.now }
+    ensures end { result ≡ at + length bytes.now }
+    ensures long { length room.new ≡ length room.old }
+{
+    let end = at + bytes.len();
+    room[at..end].copy_from_slice(bytes);
+    end
+}
+
+/// How many digits a number has.
+#[inline(always)]
+fn digit_count(number: u64) -> usize
+    ensures { result ≡ length (decimal number) }
+{
+    let mut count = 1;
+    let mut left = number;
+    while left >= 10_000 {
+        left /= 10_000;
+        count += 4;
+    }
+    if left >= 100 {
+        left /= 100;
+        count += 2;
+    }
+    if left >= 10 { count + 1 } else { count }
+}
+
+/// Puts a number of two digits or more.
+fn put_digits(room: &mut [u8], at: usize, number: u64) -> usize
+    requires { at + length (decimal number) ≤ length room.old }
+    ensures text { take result room.new ≡ take at room.old ++ decimal number }
+    ensures end { result ≡ at + length (decimal number) }
+    ensures long { length room.new ≡ length room.old }
+{
+    let end = at + digit_count(number);
+    write_digits(number, room, end);
+    end
+}
+
+/// Puts a number.
+#[inline(always)]
+fn put_number(room: &mut [u8], at: usize, number: u64) -> usize
+    requires { at + length (decimal number) ≤ length room.old }
+    ensures text { take result room.new ≡ take at room.old ++ decimal number }
+    ensures end { result ≡ at + length (decimal number) }
+    ensures long { length room.new ≡ length room.old }
+{
+    if number < 10 {
+        room[at] = b'0' + number as u8;
+        at + 1
+    } else {
+        put_digits(room, at, number)
+    }
+}
+
+/// Puts a number of 8 bits.
+#[inline(always)]
+#[tactic(auto, using(crate::proofs::Placing::byte_short))]
+pub fn put_small(room: &mut [u8], at: usize, number: u8) -> usize
+    requires { at + 3 ≤ length room.old }
+    ensures text { take result room.new ≡ take at room.old ++ decimal number }
+    ensures most { result ≤ at + 3 }
+    ensures long { length room.new ≡ length room.old }
+{
+    put_number(room, at, u64::from(number))
+}
+
+/// Puts a number of 32 bits.
+#[inline(always)]
+#[tactic(auto, using(crate::proofs::Placing::word_short))]
+pub fn put_wide(room: &mut [u8], at: usize, number: u32) -> usize
+    requires { at + 10 ≤ length room.old }
+    ensures text { take result room.new ≡ take at room.old ++ decimal number }
+    ensures most { result ≤ at + 10 }
+    ensures long { length room.new ≡ length room.old }
+{
+    put_number(room, at, u64::from(number))
+}
+
+/// Puts a number of 64 bits.
+#[inline(always)]
+#[tactic(auto, using(crate::proofs::Placing::long_short))]
+pub fn put_long(room: &mut [u8], at: usize, number: u64) -> usize
+    requires { at + 20 ≤ length room.old }
+    ensures text { take result room.new ≡ take at room.old ++ decimal number }
+    ensures most { result ≤ at + 20 }
+    ensures long { length room.new ≡ length room.old }
+{
+    put_number(room, at, number)
+}
