@@ -6,7 +6,7 @@ pub mod Naming
 pub mod PiecesAgain
 pub mod ProgramsAgain
 pub mod ProgramsBack
-pub mod Placing
+pub mod Digits
 pub mod ReadBack
 pub mod Readings
 pub mod Rejoined

@@ -111,6 +111,7 @@ fn on_at(pieces: Pieces<'_>) -> Result<(Act, Pieces<'_>), LineFault>
 
 /// An act with one of the words that are rare, or the fault that none of the words stands here.
 #[inline(never)]
+#[tactic(auto, using(crate::proofs::NoAct::no_act))]
 fn rare_act_at(text: &[u8]) -> Result<(Act, Pieces<'_>), LineFault>
     ensures { NoFrequentAct (pieces text.now) → Gives (λ x. (x.0, left x.1)) result (act_at (pieces text.now)) }
 {

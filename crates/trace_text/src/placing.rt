@@ -17,25 +17,57 @@ pub fn put(room: &mut [u8], at: usize, bytes: &[u8]) -> usize
     end
 }
 
+/// How many digits a number of at most four has.
+#[inline(always)]
+#[tactic(auto, using(crate::proofs::Digits::length_one, crate::proofs::Digits::length_two, crate::proofs::Digits::length_three, crate::proofs::Digits::length_of_four))]
+fn few_digits(number: u64) -> usize
+    requires { number < 10000 }
+    ensures count { result ≡ length (decimal number) }
+    ensures few { result ≤ 4 }
+{
+    if number < 10 {
+        1
+    } else if number < 100 {
+        2
+    } else if number < 1000 {
+        3
+    } else {
+        4
+    }
+}
+
+/// How many digits a number of at most eight has.
+#[inline(always)]
+#[tactic(auto, using(crate::proofs::Digits::length_four))]
+fn some_digits(number: u64) -> usize
+    requires { number < 100000000 }
+    ensures count { result ≡ length (decimal number) }
+    ensures few { result ≤ 8 }
+{
+    if number < 10_000 {
+        few_digits(number)
+    } else {
+        few_digits(number / 10_000) + 4
+    }
+}
+
 /// How many digits a number has.
 #[inline(always)]
+#[tactic(auto, using(crate::proofs::Digits::length_eight, crate::proofs::Digits::length_sixteen))]
 fn digit_count(number: u64) -> usize
     ensures { result ≡ length (decimal number) }
 {
-    let mut count = 1;
-    let mut left = number;
-    while left >= 10_000 {
-        left /= 10_000;
-        count += 4;
+    if number < 100_000_000 {
+        some_digits(number)
+    } else if number < 10_000_000_000_000_000 {
+        some_digits(number / 100_000_000) + 8
+    } else {
+        some_digits(number / 10_000_000_000_000_000) + 16
     }
-    if left >= 100 {
-        left /= 100;
-        count += 2;
-    }
-    if left >= 10 { count + 1 } else { count }
 }
 
-/// Puts a number of two digits or more.
+/// Puts a number of any length.
+#[tactic(auto, using(crate::proofs::Digits::placed))]
 fn put_digits(room: &mut [u8], at: usize, number: u64) -> usize
     requires { at + length (decimal number) ≤ length room.old }
     ensures text { take result room.new ≡ take at room.old ++ decimal number }
@@ -49,6 +81,7 @@ fn put_digits(room: &mut [u8], at: usize, number: u64) -> usize
 
 /// Puts a number.
 #[inline(always)]
+#[tactic(auto, using(crate::proofs::Digits::one_placed, crate::proofs::Digits::length_one))]
 fn put_number(room: &mut [u8], at: usize, number: u64) -> usize
     requires { at + length (decimal number) ≤ length room.old }
     ensures text { take result room.new ≡ take at room.old ++ decimal number }
@@ -65,7 +98,7 @@ fn put_number(room: &mut [u8], at: usize, number: u64) -> usize
 
 /// Puts a number of 8 bits.
 #[inline(always)]
-#[tactic(auto, using(crate::proofs::Placing::byte_short))]
+#[tactic(auto, using(crate::proofs::Digits::byte_short))]
 pub fn put_small(room: &mut [u8], at: usize, number: u8) -> usize
     requires { at + 3 ≤ length room.old }
     ensures text { take result room.new ≡ take at room.old ++ decimal number }
@@ -77,7 +110,7 @@ pub fn put_small(room: &mut [u8], at: usize, number: u8) -> usize
 
 /// Puts a number of 32 bits.
 #[inline(always)]
-#[tactic(auto, using(crate::proofs::Placing::word_short))]
+#[tactic(auto, using(crate::proofs::Digits::word_short))]
 pub fn put_wide(room: &mut [u8], at: usize, number: u32) -> usize
     requires { at + 10 ≤ length room.old }
     ensures text { take result room.new ≡ take at room.old ++ decimal number }
@@ -89,7 +122,7 @@ pub fn put_wide(room: &mut [u8], at: usize, number: u32) -> usize
 
 /// Puts a number of 64 bits.
 #[inline(always)]
-#[tactic(auto, using(crate::proofs::Placing::long_short))]
+#[tactic(auto, using(crate::proofs::Digits::long_short))]
 pub fn put_long(room: &mut [u8], at: usize, number: u64) -> usize
     requires { at + 20 ≤ length room.old }
     ensures text { take result room.new ≡ take at room.old ++ decimal number }

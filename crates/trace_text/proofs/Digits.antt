@@ -16,7 +16,13 @@ length_one n few = ap length (decimal_digit n few)
 pub length_two : (n : ℕ) → 10 ≤ n → n < 100 → length (decimal n) ≡ 2
 length_two n some few = omega (arith, length_step n some (omega arith), length_one (n / 10) (omega arith))
 
-pub length_pair : (n : ℕ) → 100 ≤ n → n < 2 ^ 64 → length (decimal n) ≡ length (decimal (n / 100)) + 2
+pub length_three : (n : ℕ) → 100 ≤ n → n < 1000 → length (decimal n) ≡ 3
+length_three n some few = omega (arith, length_step n (omega arith) (omega arith), length_two (n / 10) (omega arith) (omega arith))
+
+pub length_of_four : (n : ℕ) → 1000 ≤ n → n < 10000 → length (decimal n) ≡ 4
+length_of_four n some few = omega (arith, length_step n (omega arith) (omega arith), length_three (n / 10) (omega arith) (omega arith))
+
+length_pair : (n : ℕ) → 100 ≤ n → n < 2 ^ 64 → length (decimal n) ≡ length (decimal (n / 100)) + 2
 length_pair n some fits =
     let twice : n / 10 / 10 ≡ n / 100 = omega arith in
     let step : length (decimal (n / 10)) ≡ length (decimal (n / 100)) + 1 =
@@ -31,6 +37,22 @@ length_four n some fits =
     length_pair (n / 100) (omega arith) (omega arith) ∙ ap (λ (k : ℕ). length (decimal k) + 2) twice
     in
     omega (arith, length_pair n (omega arith) fits, step)
+
+pub length_eight : (n : ℕ) → 100000000 ≤ n → n < 2 ^ 64 → length (decimal n) ≡ length (decimal (n / 100000000)) + 8
+length_eight n some fits =
+    let twice : n / 10000 / 10000 ≡ n / 100000000 = omega arith in
+    let step : length (decimal (n / 10000)) ≡ length (decimal (n / 100000000)) + 4 =
+    length_four (n / 10000) (omega arith) (omega arith) ∙ ap (λ (k : ℕ). length (decimal k) + 4) twice
+    in
+    omega (arith, length_four n (omega arith) fits, step)
+
+pub length_sixteen : (n : ℕ) → 10000000000000000 ≤ n → n < 2 ^ 64 → length (decimal n) ≡ length (decimal (n / 10000000000000000)) + 16
+length_sixteen n some fits =
+    let twice : n / 100000000 / 100000000 ≡ n / 10000000000000000 = omega arith in
+    let step : length (decimal (n / 100000000)) ≡ length (decimal (n / 10000000000000000)) + 8 =
+    length_eight (n / 100000000) (omega arith) (omega arith) ∙ ap (λ (k : ℕ). length (decimal k) + 8) twice
+    in
+    omega (arith, length_eight n (omega arith) fits, step)
 
 pub byte_short : (n : ℕ) → n < 2 ^ 8 → length (decimal n) ≤ 3
 byte_short n fits = length-decimal-le 3 n (omega arith) (omega arith) (omega arith)
