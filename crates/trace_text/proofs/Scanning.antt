@@ -1,12 +1,12 @@
 -- What stands at the front of a text is its next piece.
-use Rattle.std.proofs.Common.{[], ap, arith, drop, get_or, length, List, refl, subst, sym, take, ℕ, ◌+◌, ◌*◌, ◌++◌, ◌<◌, ◌≡◌, ◌≢◌, ◌≤◌, ◌∙◌, ◌∷◌, ◌⊎◌, Bool, Ok, inl, inr, not, true, false}
+use Rattle.std.proofs.Common.{[], ap, arith, drop, get_or, length, List, refl, subst, sym, take, ℕ, ◌+◌, ◌*◌, ◌++◌, ◌<◌, ◌≡◌, ◌≢◌, ◌≤◌, ◌∙◌, ◌∷◌, inl, inr, not, true, false}
 use Rattle.std.specs.List.{list_all}
 use Rattle.std.proofs.Math.Dec.{eqb}
 use Rattle.std.proofs.Math.Seq.{take-append_seam}
 use Rattle.std.proofs.lemmas.Bool.{and_parts, and_right, cases_Bool, le-leb, ne_eqb, not-true}
 use Rattle.std.proofs.lemmas.List.{append-nil, get_or-take, length-take-le, take-append-drop, take_all, take_more, take_more_same}
 use Rattle.std.proofs.lemmas.List.Folds.{list_all_more}
-use Rattle.flat_policy.specs.Texts.Pieces.{digit_value, is_digit, is_numeral, next_piece, number_after, number_within, numeral_value, pieces, same_text, spaced}
+use Rattle.flat_policy.specs.Texts.Pieces.{digit_value, is_digit, is_numeral, number_after, numeral_value, pieces, same_text, spaced}
 use Rattle.trace_text.proofs.LinesBack.{spaced_pieces}
 use Rattle.trace_text.proofs.PiecesAgain.{digits_plain, numeral_from}
 use Rattle.trace_text.proofs.ReadBack.{same_text_is}
