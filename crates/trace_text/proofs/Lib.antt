@@ -1,3 +1,4 @@
+pub mod NoAct
 pub mod Again
 pub mod AnswersBack
 pub mod LinesBack
@@ -5,10 +6,12 @@ pub mod Naming
 pub mod PiecesAgain
 pub mod ProgramsAgain
 pub mod ProgramsBack
+pub mod Digits
 pub mod ReadBack
 pub mod Readings
 pub mod Rejoined
 pub mod RunLines
+pub mod Scanning
 pub mod Spans
 pub mod Splitting
 pub mod StepsBack

@@ -6,10 +6,9 @@ use Rattle.flat_policy.specs.Texts.Answers.{answer_at, place_at, refusal_at}
 use Rattle.flat_policy.specs.Texts.Lines.{program_at, read_run_pieces}
 use Rattle.trace_text.specs.Runs.{read_thread_pieces}
 use Rattle.flat_policy.specs.Texts.Pieces.{Reading, Worded, and_then, followed_by, next_piece, or_word_fault, same_text, value_of_word, word_among}
-use Rattle.flat_policy.specs.Texts.Steps.{act_at}
 use Rattle.trace_text.proofs.Readings.{ok_is}
 use Rattle.trace_text.specs.Reading.{as_it_is}
-use Rattle.trace_text.specs.Naming.{act_behind, act_names, answer_behind, answer_names, place_behind, place_names, refusal_behind, refusal_names, run_behind, run_names, words_for}
+use Rattle.trace_text.specs.Naming.{answer_behind, answer_names, place_behind, place_names, refusal_behind, refusal_names, run_behind, run_names, words_for}
 use Rattle.flat_policy.specs.declared.texts.LineFault.TheVariants as line_faults
 
 -- texts of unlike lengths
@@ -90,9 +89,6 @@ by_word of (w ∷ names) p ps =
 by_name : {W A : Type 0} (of : W → List (List ℕ) → Reading A) (names : List (Worded W)) (ps : List (List ℕ)) → followed_by (next_piece (word_among (words_for of names)) ps) (λ arguments rest. arguments rest) ≡ followed_by (next_piece (word_among names) ps) of
 by_name of names [] = refl
 by_name of names (p ∷ ps) = by_word of names p ps
-
-pub act_by_name : (ps : List (List ℕ)) → act_at ps ≡ followed_by (next_piece (word_among act_names) ps) act_behind
-act_by_name ps = by_name act_behind act_names ps
 
 pub place_by_name : (ps : List (List ℕ)) → place_at ps ≡ followed_by (next_piece (word_among place_names) ps) place_behind
 place_by_name ps = by_name place_behind place_names ps

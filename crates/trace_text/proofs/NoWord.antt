@@ -2,14 +2,7 @@
 use Rattle.std.proofs.Common.{arith, get_or, length, List, refl, suc, ℕ, ◌≡◌, ◌≢◌, ◌≤◌, None}
 use Rattle.flat_policy.specs.Texts.Pieces.{value_of_word}
 use Rattle.trace_text.proofs.Naming.{no_first, no_word}
-use Rattle.trace_text.specs.Naming.{act_names, refusal_names}
-
--- no word of an act is longer than 7 bytes, and those of 7 bytes begin with b and r
-pub long_is_no_act : (p : List ℕ) → 8 ≤ length p → value_of_word act_names p ≡ None
-long_is_no_act p long = no_word 8 (suc (length p)) act_names p refl long (omega arith)
-
-pub other_is_no_act : (p : List ℕ) → length p ≡ 7 → get_or p 0 0 ≢ 98 → get_or p 0 0 ≢ 114 → value_of_word act_names p ≡ None
-other_is_no_act p seven b r = no_first 7 act_names p (omega arith) seven (b, (r, tt))
+use Rattle.trace_text.specs.Naming.{refusal_names}
 
 -- no word of a refusal is longer than 10 bytes, and those of 10 bytes begin with N and O
 pub long_is_no_refusal : (p : List ℕ) → 11 ≤ length p → value_of_word refusal_names p ≡ None

@@ -1,5 +1,5 @@
 -- Numerals and other pieces, read again.
-use Rattle.std.proofs.Common.{[], arith, decimal, get_or, inl, inr, length, List, refl, rules, ℕ, ◌-◌, ◌<◌, ◌^◌, ◌≡◌, ◌≤◌, ◌⊎◌, ◌∷◌, ◌&&◌, Bool, IfSome, None, Ok, Option, Some, false, not, true}
+use Rattle.std.proofs.Common.{[], arith, decimal, get_or, inl, inr, length, List, refl, rules, ℕ, ◌-◌, ◌<◌, ◌^◌, ◌≡◌, ◌≢◌, ◌≤◌, ◌⊎◌, ◌∷◌, ◌&&◌, Bool, IfSome, None, Ok, Option, Some, false, not, true}
 use Rattle.std.specs.List.{list_all}
 use Rattle.std.proofs.Math.Dec.{eqb, leb}
 use Rattle.std.proofs.lemmas.Bool.{and_parts, cases_lt, leb-true, le-leb, ne_eqb}
@@ -8,15 +8,12 @@ use Rattle.std.proofs.lemmas.Str.Parse.{IsNumeralModel, numerals_by_fold}
 use Rattle.sched_base.specs.declared.Bucket.{Bucket}
 use Rattle.sched_base.specs.declared.Bucket.TheVariants.{Bg, Df, Fg, Ini, Ui, Ut}
 use Rattle.flat_policy.specs.Texts.Pieces.{bound_piece, bound_within, bucket_piece, bucket_words, end_piece, end_words, is_digit, is_numeral, number_after, number_within, same_text, word_among}
+use Rattle.trace_text.specs.Spaces.{is_plain}
 
 pub own : IsNumeralModel (λ ds. list_all is_digit ds ≡ true) (number_after 0)
 own = numerals_by_fold _ (search rules) number_after (search rules)
 
 -- ---- a piece has no space
-
-abbrev pub is_plain : List ℕ → Bool
-is_plain [] = true
-is_plain (b ∷ bs) = not (eqb b 32) && is_plain bs
 
 digit_not_space : (b : ℕ) → is_digit b ≡ true → eqb b 32 ≡ false
 digit_not_space b e =
@@ -24,7 +21,7 @@ digit_not_space b e =
     let low = leb-true 48 b parts.0 in
     ne_eqb b 32 (λ same. omega arith)
 
-digits_plain : (ds : List ℕ) → list_all is_digit ds ≡ true → is_plain ds ≡ true
+pub digits_plain : (ds : List ℕ) → list_all is_digit ds ≡ true → is_plain ds ≡ true
 digits_plain [] e = refl
 digits_plain (b ∷ bs) e =
     let parts = and_parts (is_digit b) (list_all is_digit bs) e in
@@ -35,12 +32,12 @@ decimal_plain n lt = digits_plain (decimal n) (digits_decimal own n lt)
 
 -- ---- a numeral
 
-numeral_from : (ds : List ℕ) → list_all is_digit ds ≡ true → 0 < length ds → (48 < get_or ds 0 0) ⊎ (length ds ≡ 1) → is_numeral ds ≡ true
+pub numeral_from : (ds : List ℕ) → list_all is_digit ds ≡ true → 0 < length ds → (get_or ds 0 0 ≢ 48) ⊎ (length ds ≡ 1) → is_numeral ds ≡ true
 numeral_from [] e some first = absurd (omega arith)
 numeral_from (b ∷ []) e some first = (and_parts (is_digit b) true e).0
-numeral_from (b ∷ c ∷ bs) e some (inl above) =
+numeral_from (b ∷ c ∷ bs) e some (inl unlike) =
     let parts = and_parts (is_digit b) (list_all is_digit (c ∷ bs)) e in
-    let other : eqb b 48 ≡ false = ne_eqb b 48 (λ same. omega arith) in
+    let other : eqb b 48 ≡ false = ne_eqb b 48 unlike in
     rw (parts.0, other) parts.1
 numeral_from (b ∷ c ∷ bs) e some (inr one) = absurd (omega arith)
 
@@ -49,7 +46,7 @@ decimal_numeral n lt =
     let digits = digits_decimal own n lt in
     let some = decimal_nonempty n lt in
     elim (cases_lt 0 n) [
-      | inl above ↦ numeral_from (decimal n) digits some (inl (first_decimal n above lt))
+      | inl above ↦ numeral_from (decimal n) digits some (inl (λ same. omega (arith, first_decimal n above lt)))
       | inr zero ↦ numeral_from (decimal n) digits some (inr (rw (decimal_digit n (omega arith)) refl))
     ]
 

@@ -3,20 +3,20 @@ use Rattle.std.proofs.Common.{[], ap, append_assoc, List, refl, sym, ℕ, ◌++�
 use Rattle.std.proofs.Math.Dec.{eqb}
 use Rattle.std.proofs.lemmas.Bool.{and_parts, not-true}
 use Rattle.flat_policy.specs.Texts.Pieces.{pieces, spaced}
-use Rattle.trace_text.proofs.PiecesAgain.{is_plain}
+use Rattle.trace_text.specs.Spaces.{is_plain}
 
 -- each piece is without a space
 abbrev pub AllPlain : List (List ℕ) → Type 0
 AllPlain [] = Unit {0}
 AllPlain (p ∷ ps) = (is_plain p ≡ true) × AllPlain ps
 
-pieces_plain : (p : List ℕ) → is_plain p ≡ true → pieces p ≡ p ∷ []
+pub pieces_plain : (p : List ℕ) → is_plain p ≡ true → pieces p ≡ p ∷ []
 pieces_plain [] e = refl
 pieces_plain (b ∷ bs) e =
     let parts = and_parts (not (eqb b 32)) (is_plain bs) e in
     rw (not-true (eqb b 32) parts.0, pieces_plain bs parts.1) refl
 
-pieces_behind : (p rest : List ℕ) → is_plain p ≡ true → pieces (p ++ 32 ∷ rest) ≡ p ∷ pieces rest
+pub pieces_behind : (p rest : List ℕ) → is_plain p ≡ true → pieces (p ++ 32 ∷ rest) ≡ p ∷ pieces rest
 pieces_behind [] rest e = refl
 pieces_behind (b ∷ bs) rest e =
     let parts = and_parts (not (eqb b 32)) (is_plain bs) e in

@@ -9,7 +9,7 @@ use Rattle.flat_policy.specs.Texts.Lines.{RunReading, RunSays, power_at, power_l
 use Rattle.flat_policy.specs.Texts.Pieces.{next_piece, pieces, spaced, word_among}
 use Rattle.flat_policy.specs.Runs.Worker.{Program}
 use Rattle.trace_text.proofs.LinesBack.{limited, spaced_pieces}
-use Rattle.trace_text.proofs.PiecesAgain.{is_plain}
+use Rattle.trace_text.specs.Spaces.{is_plain}
 use Rattle.trace_text.proofs.ProgramsAgain.{power_again, power_plain, power_short, program_again, program_plain, program_short}
 use Rattle.trace_text.proofs.ProgramsBack.{power_back, power_fields, program_back, program_fields}
 use Rattle.trace_text.proofs.ReadBack.{word_back}

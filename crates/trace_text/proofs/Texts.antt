@@ -1,6 +1,7 @@
 -- The texts of steps and answers, part by part, and how long they are.
-use Rattle.std.proofs.Common.{arith, codes, decimal, length, List, refl, length-append, ℕ, ◌++◌, ◌<◌, ◌^◌, ◌≡◌, ◌≤◌, ◌∷◌, IfSome, None, Option, Some, true, false, Bool}
+use Rattle.std.proofs.Common.{ap, arith, codes, decimal, length, List, refl, length-append, take, ℕ, ◌++◌, ◌<◌, ◌^◌, ◌≡◌, ◌≤◌, ◌∷◌, IfSome, None, Option, Some, true, false, Bool}
 use Rattle.std.proofs.lemmas.Fmt.{length-decimal-le}
+use Rattle.std.proofs.lemmas.List.{length-take-le}
 use Rattle.sched_base.specs.declared.Act.{Act}
 use Rattle.sched_base.specs.declared.Bucket.{Bucket}
 use Rattle.sched_base.specs.declared.Bucket.TheVariants.{Bg, Df, Fg, Ini, Ui, Ut}
@@ -96,3 +97,8 @@ step_short s fits =
 
 pub written_short : (text : List ℕ) → IsStepText text → length text ≤ 60
 written_short text is = rw is.same (step_short is.step is.fits)
+
+-- how far a buffer is filled that holds one
+pub filled_short : (text buffer : List ℕ) (len : ℕ) → IsStepText text → take len buffer ≡ text → len ≤ length buffer → len ≤ 60
+filled_short text buffer len is same within =
+    omega (arith, written_short text is, length-take-le len buffer within, ap length same)

@@ -1,5 +1,6 @@
 pub mod Laws
 pub mod Naming
+pub mod Pages
 pub mod Reading
 pub mod Runs
 pub mod Spaces

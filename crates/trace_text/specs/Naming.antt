@@ -1,18 +1,15 @@
 -- The words that lines of acts, places, refusals, answers and runs begin with, each by a name, and what is read behind it.
-use Rattle.std.specs.Prelude.{List, [], codes, false, map, true, ◌∷◌}
+use Rattle.std.specs.Prelude.{List, [], codes, false, map, true, ℕ, ◌≡◌, ◌∷◌}
 use Rattle.flat_policy.specs.Texts.Answers.{AnswerReading, PlaceReading, counted, hand_at_actor, lone_answer, lone_place, placed, queue_at, refusal_at}
 use Rattle.flat_policy.specs.Texts.Lines.{RunReading, power_reading, thread_reading}
 use Rattle.flat_policy.specs.Texts.Pieces.{Worded, most_of_32, most_of_64, worded}
-use Rattle.flat_policy.specs.Texts.Steps.{ArgumentReading, alone, enter_at, looks_at, make_at, off_at, offer_at, on_at, pull_at, ran_at, wake_at}
-use Rattle.trace_text.specs.declared.words.ActWord.{ActWord}
+use Rattle.trace_text.specs.Reading.{is_next}
 use Rattle.trace_text.specs.declared.words.PlaceWord.{PlaceWord}
 use Rattle.trace_text.specs.declared.words.RefusalWord.{RefusalWord}
 use Rattle.trace_text.specs.declared.words.AnswerWord.{AnswerWord}
 use Rattle.trace_text.specs.declared.words.RunWord.{RunWord}
-use Rattle.sched_base.specs.declared.Act.TheVariants as acts
 use Rattle.sched_base.specs.declared.Answer.TheVariants as answers
 use Rattle.sched_base.specs.declared.Place.TheVariants as places
-use Rattle.trace_text.specs.declared.words.ActWord.TheVariants as act_words
 use Rattle.trace_text.specs.declared.words.PlaceWord.TheVariants as place_words
 use Rattle.trace_text.specs.declared.words.RefusalWord.TheVariants as refusal_words
 use Rattle.trace_text.specs.declared.words.AnswerWord.TheVariants as answer_words
@@ -22,43 +19,16 @@ use Rattle.trace_text.specs.declared.words.RunWord.TheVariants as run_words
 abbrev pub words_for : {W A : Type 0} → (W → A) → List (Worded W) → List (Worded A)
 words_for of names = map (λ w. worded w.word (of w.value)) names
 
--- the words of an act
-abbrev pub act_names : List (Worded ActWord)
-act_names =
-    worded (codes "make") act_words.Make
-    ∷ worded (codes "enter") act_words.Enter
-    ∷ worded (codes "select") act_words.Select
-    ∷ worded (codes "offer") act_words.Offer
-    ∷ worded (codes "pull") act_words.Pull
-    ∷ worded (codes "look") act_words.Look
-    ∷ worded (codes "aim") act_words.Aim
-    ∷ worded (codes "ran") act_words.Ran
-    ∷ worded (codes "sleep") act_words.Sleep
-    ∷ worded (codes "wake") act_words.Wake
-    ∷ worded (codes "end") act_words.End
-    ∷ worded (codes "blocked") act_words.Blocked
-    ∷ worded (codes "refresh") act_words.Refresh
-    ∷ worded (codes "off") act_words.Off
-    ∷ worded (codes "on") act_words.On
-    ∷ []
-
--- what is read behind the word of an act
-abbrev pub act_behind : ActWord → ArgumentReading
-act_behind act_words.Make = make_at
-act_behind act_words.Enter = enter_at
-act_behind act_words.Select = alone acts.Select
-act_behind act_words.Offer = offer_at
-act_behind act_words.Pull = pull_at
-act_behind act_words.Look = looks_at
-act_behind act_words.Aim = alone acts.Aim
-act_behind act_words.Ran = ran_at
-act_behind act_words.Sleep = alone acts.Sleep
-act_behind act_words.Wake = wake_at
-act_behind act_words.End = alone acts.End
-act_behind act_words.Blocked = alone acts.Blocked
-act_behind act_words.Refresh = alone acts.Refresh
-act_behind act_words.Off = off_at
-act_behind act_words.On = on_at
+-- the next piece is none of the words that acts most often begin with
+pub record NoFrequentAct (ps : List (List ℕ)) : Type 0 where
+  pub select : is_next (codes "select") ps ≡ false
+  pub enter : is_next (codes "enter") ps ≡ false
+  pub looks : is_next (codes "look") ps ≡ false
+  pub ran : is_next (codes "ran") ps ≡ false
+  pub aim : is_next (codes "aim") ps ≡ false
+  pub sleep : is_next (codes "sleep") ps ≡ false
+  pub wake : is_next (codes "wake") ps ≡ false
+  pub offer : is_next (codes "offer") ps ≡ false
 
 -- the words of a place
 abbrev pub place_names : List (Worded PlaceWord)

@@ -1,9 +1,9 @@
 -- What a reader of the code answers, against the definitions of lines.
-use Rattle.std.specs.Prelude.{Err, List, None, Ok, Option, Result, Some, [], if◌then◌else◌, nat_lt, suc, zero, ℕ, ◌≡◌, ◌^◌, ◌∷◌}
+use Rattle.std.specs.Prelude.{Bool, Err, List, None, Ok, Option, Result, Some, [], false, if◌then◌else◌, nat_lt, suc, zero, ℕ, ◌≡◌, ◌≢◌, ◌≤◌, ◌^◌, ◌∷◌}
 use Rattle.std.specs.Borrow.{Bor}
 use Rattle.std.specs.List.{list_all}
 use Rattle.flat_policy.specs.declared.texts.LineFault.{LineFault}
-use Rattle.flat_policy.specs.Texts.Pieces.{is_digit, number_after, pieces}
+use Rattle.flat_policy.specs.Texts.Pieces.{is_digit, next_piece, number_after, number_within, pieces, same_text}
 use Rattle.trace_text.specs.declared.pieces.Pieces.{Pieces}
 use Rattle.flat_policy.specs.declared.texts.LineFault.TheVariants as line_faults
 
@@ -24,6 +24,25 @@ left p = left_of p.rest
 -- a piece read as itself
 abbrev pub as_it_is : List ℕ → Result (List ℕ) LineFault
 as_it_is p = Ok p
+
+-- whether a word is the next piece
+abbrev pub is_next : List ℕ → List (List ℕ) → Bool
+is_next word [] = false
+is_next word (p ∷ ps) = same_text word p
+
+-- the next piece is a numeral of this value, whatever may be the most that it may write, and these are behind it
+abbrev pub IsNumberNext : List (List ℕ) → ℕ → List (List ℕ) → Type 0
+IsNumberNext ps n rest = (most : ℕ) → n ≤ most → next_piece (number_within most) ps ≡ Ok (n, rest)
+
+-- these pieces stand behind one that ends where a text begins
+abbrev pub Follows : List ℕ → List (List ℕ) → Type 0
+Follows [] ps = ps ≡ []
+Follows (b ∷ bs) ps = (b ≡ 32) × (ps ≡ pieces bs)
+
+-- a text that begins with a byte that is no space
+abbrev pub BeginsPlain : List ℕ → Type 0
+BeginsPlain [] = ⊥
+BeginsPlain (b ∷ bs) = b ≢ 32
 
 -- the piece of this number among some
 abbrev pub piece_among : List (List ℕ) → ℕ → Option (List ℕ)

@@ -14,18 +14,18 @@ ghost use Rattle.flat_policy.specs.Texts.Steps.{
   off_at,
   on_at,
 };
-ghost use Rattle.flat_policy.specs.Texts.Pieces.{next_piece, word_among};
-ghost use Rattle.trace_text.specs.Naming.{act_behind, act_names};
+ghost use Rattle.flat_policy.specs.Texts.Pieces.{pieces};
+ghost use Rattle.trace_text.specs.Naming.{NoFrequentAct};
 ghost use Rattle.trace_text.specs.Reading.{Gives, left};
 
 use crate::fields::{
     actor_at, base_at, bound_at, bucket_at, cluster_at, end_at, group_at, moment_at, wide_at,
 };
-use crate::pieces::{Pieces, next};
-use crate::words::{ActWord, act_word};
+use crate::pieces::{Pieces, behind_word};
 use flat_policy::texts::LineFault;
 use sched_base::{Act, Step};
 
+#[inline(always)]
 fn make_at(pieces: Pieces<'_>) -> Result<(Act, Pieces<'_>), LineFault>
     ensures { Gives (λ x. (x.0, left x.1)) result (make_at (left pieces.entry)) }
 {
@@ -44,6 +44,7 @@ fn make_at(pieces: Pieces<'_>) -> Result<(Act, Pieces<'_>), LineFault>
     Ok((act, rest))
 }
 
+#[inline(always)]
 fn enter_at(pieces: Pieces<'_>) -> Result<(Act, Pieces<'_>), LineFault>
     ensures { Gives (λ x. (x.0, left x.1)) result (enter_at (left pieces.entry)) }
 {
@@ -52,6 +53,7 @@ fn enter_at(pieces: Pieces<'_>) -> Result<(Act, Pieces<'_>), LineFault>
     Ok((Act::Enter { cluster, head }, rest))
 }
 
+#[inline(always)]
 fn offer_at(pieces: Pieces<'_>) -> Result<(Act, Pieces<'_>), LineFault>
     ensures { Gives (λ x. (x.0, left x.1)) result (offer_at (left pieces.entry)) }
 {
@@ -59,6 +61,7 @@ fn offer_at(pieces: Pieces<'_>) -> Result<(Act, Pieces<'_>), LineFault>
     Ok((Act::Offer { cluster }, rest))
 }
 
+#[inline(always)]
 fn pull_at(pieces: Pieces<'_>) -> Result<(Act, Pieces<'_>), LineFault>
     ensures { Gives (λ x. (x.0, left x.1)) result (pull_at (left pieces.entry)) }
 {
@@ -66,6 +69,7 @@ fn pull_at(pieces: Pieces<'_>) -> Result<(Act, Pieces<'_>), LineFault>
     Ok((Act::Pull { name }, rest))
 }
 
+#[inline(always)]
 fn look_at(pieces: Pieces<'_>) -> Result<(Act, Pieces<'_>), LineFault>
     ensures { Gives (λ x. (x.0, left x.1)) result (looks_at (left pieces.entry)) }
 {
@@ -73,6 +77,7 @@ fn look_at(pieces: Pieces<'_>) -> Result<(Act, Pieces<'_>), LineFault>
     Ok((Act::Look { cluster }, rest))
 }
 
+#[inline(always)]
 fn ran_at(pieces: Pieces<'_>) -> Result<(Act, Pieces<'_>), LineFault>
     ensures { Gives (λ x. (x.0, left x.1)) result (ran_at (left pieces.entry)) }
 {
@@ -80,6 +85,7 @@ fn ran_at(pieces: Pieces<'_>) -> Result<(Act, Pieces<'_>), LineFault>
     Ok((Act::Ran { us }, rest))
 }
 
+#[inline(always)]
 fn wake_at(pieces: Pieces<'_>) -> Result<(Act, Pieces<'_>), LineFault>
     ensures { Gives (λ x. (x.0, left x.1)) result (wake_at (left pieces.entry)) }
 {
@@ -87,6 +93,7 @@ fn wake_at(pieces: Pieces<'_>) -> Result<(Act, Pieces<'_>), LineFault>
     Ok((Act::Wake { name }, rest))
 }
 
+#[inline(always)]
 fn off_at(pieces: Pieces<'_>) -> Result<(Act, Pieces<'_>), LineFault>
     ensures { Gives (λ x. (x.0, left x.1)) result (off_at (left pieces.entry)) }
 {
@@ -94,6 +101,7 @@ fn off_at(pieces: Pieces<'_>) -> Result<(Act, Pieces<'_>), LineFault>
     Ok((Act::Off { cluster }, rest))
 }
 
+#[inline(always)]
 fn on_at(pieces: Pieces<'_>) -> Result<(Act, Pieces<'_>), LineFault>
     ensures { Gives (λ x. (x.0, left x.1)) result (on_at (left pieces.entry)) }
 {
@@ -101,46 +109,77 @@ fn on_at(pieces: Pieces<'_>) -> Result<(Act, Pieces<'_>), LineFault>
     Ok((Act::On { cluster }, rest))
 }
 
-fn act_word_at(pieces: Pieces<'_>) -> Result<(ActWord, Pieces<'_>), LineFault>
-    ensures { Gives (λ x. (x.0, left x.1)) result (next_piece (word_among act_names) (left pieces.entry)) }
+/// An act with one of the words that are rare, or the fault that none of the words stands here.
+#[inline(never)]
+#[tactic(auto, using(crate::proofs::NoAct::no_act))]
+fn rare_act_at(text: &[u8]) -> Result<(Act, Pieces<'_>), LineFault>
+    ensures { NoFrequentAct (pieces text.now) → Gives (λ x. (x.0, left x.1)) result (act_at (pieces text.now)) }
 {
-    let (piece, rest) = next(pieces)?;
-    match act_word(piece) {
-        Some(word) => Ok((word, rest)),
-        None => Err(LineFault::Word),
+    if let Some(rest) = behind_word(text, b"blocked") {
+        return Ok((Act::Blocked, rest));
     }
+    if let Some(rest) = behind_word(text, b"refresh") {
+        return Ok((Act::Refresh, rest));
+    }
+    if let Some(rest) = behind_word(text, b"make") {
+        return make_at(rest);
+    }
+    if let Some(rest) = behind_word(text, b"end") {
+        return Ok((Act::End, rest));
+    }
+    if let Some(rest) = behind_word(text, b"pull") {
+        return pull_at(rest);
+    }
+    if let Some(rest) = behind_word(text, b"on") {
+        return on_at(rest);
+    }
+    if let Some(rest) = behind_word(text, b"off") {
+        return off_at(rest);
+    }
+    Err(LineFault::Word)
 }
 
-/// What stands behind a word of an act.
-fn act_behind(word: ActWord, pieces: Pieces<'_>) -> Result<(Act, Pieces<'_>), LineFault>
-    ensures { Gives (λ x. (x.0, left x.1)) result (act_behind word (left pieces.entry)) }
+/// An act, from its word on. The words that come most often are looked for first.
+#[inline(always)]
+fn worded_act_at(text: &[u8]) -> Result<(Act, Pieces<'_>), LineFault>
+    ensures { Gives (λ x. (x.0, left x.1)) result (act_at (pieces text.now)) }
 {
-    match word {
-        ActWord::Make => make_at(pieces),
-        ActWord::Enter => enter_at(pieces),
-        ActWord::Select => Ok((Act::Select, pieces)),
-        ActWord::Offer => offer_at(pieces),
-        ActWord::Pull => pull_at(pieces),
-        ActWord::Look => look_at(pieces),
-        ActWord::Aim => Ok((Act::Aim, pieces)),
-        ActWord::Ran => ran_at(pieces),
-        ActWord::Sleep => Ok((Act::Sleep, pieces)),
-        ActWord::Wake => wake_at(pieces),
-        ActWord::End => Ok((Act::End, pieces)),
-        ActWord::Blocked => Ok((Act::Blocked, pieces)),
-        ActWord::Refresh => Ok((Act::Refresh, pieces)),
-        ActWord::Off => off_at(pieces),
-        ActWord::On => on_at(pieces),
+    if let Some(rest) = behind_word(text, b"select") {
+        return Ok((Act::Select, rest));
     }
+    if let Some(rest) = behind_word(text, b"enter") {
+        return enter_at(rest);
+    }
+    if let Some(rest) = behind_word(text, b"look") {
+        return look_at(rest);
+    }
+    if let Some(rest) = behind_word(text, b"ran") {
+        return ran_at(rest);
+    }
+    if let Some(rest) = behind_word(text, b"aim") {
+        return Ok((Act::Aim, rest));
+    }
+    if let Some(rest) = behind_word(text, b"sleep") {
+        return Ok((Act::Sleep, rest));
+    }
+    if let Some(rest) = behind_word(text, b"wake") {
+        return wake_at(rest);
+    }
+    if let Some(rest) = behind_word(text, b"offer") {
+        return offer_at(rest);
+    }
+    rare_act_at(text)
 }
 
 /// An act, from its word on.
-#[tactic(auto, using(crate::proofs::Naming::act_by_name))]
+#[inline(always)]
 fn act_at(pieces: Pieces<'_>) -> Result<(Act, Pieces<'_>), LineFault>
     ensures { Gives (λ x. (x.0, left x.1)) result (act_at (left pieces.entry)) }
 {
-    let (word, rest) = act_word_at(pieces)?;
-    act_behind(word, rest)
+    match pieces.rest {
+        Some(text) => worded_act_at(text),
+        None => Err(LineFault::Word),
+    }
 }
 
 /// A step, from its moment on.

@@ -18,7 +18,7 @@ ghost use Rattle.flat_policy.specs.Texts.Pieces.{
 ghost use Rattle.trace_text.specs.Reading.{Gives, left};
 
 use crate::numerals::read_numeral;
-use crate::pieces::{Pieces, next};
+use crate::pieces::{Pieces, next, next_number};
 use crate::words::{bucket_of, end_of};
 use flat_policy::texts::LineFault;
 use sched_base::Bucket;
@@ -31,8 +31,9 @@ const LAST_CLUSTER: u8 = CLUSTERS_OF_LINES as u8 - 1;
 
 const LAST_ACTOR: u8 = MOST_ACTORS as u8 - 1;
 
-/// A number of at most so much.
-pub fn number_at(pieces: Pieces<'_>, most: u64) -> Result<(u64, Pieces<'_>), LineFault>
+/// A number of at most so much, by a second look at each of its bytes.
+#[inline(never)]
+fn exact_number_at(pieces: Pieces<'_>, most: u64) -> Result<(u64, Pieces<'_>), LineFault>
     ensures exact { Gives (λ x. (x.0, left x.1)) result (next_piece (number_within most) (left pieces.entry)) }
     ensures most { IfOk result (λ x. x.0 ≤ most) }
 {
@@ -41,7 +42,21 @@ pub fn number_at(pieces: Pieces<'_>, most: u64) -> Result<(u64, Pieces<'_>), Lin
     Ok((number, rest))
 }
 
+/// A number of at most so much.
+#[inline(always)]
+pub fn number_at(pieces: Pieces<'_>, most: u64) -> Result<(u64, Pieces<'_>), LineFault>
+    ensures exact { Gives (λ x. (x.0, left x.1)) result (next_piece (number_within most) (left pieces.entry)) }
+    ensures most { IfOk result (λ x. x.0 ≤ most) }
+{
+    match next_number(pieces) {
+        Some((number, rest)) if number <= most => Ok((number, rest)),
+        // Short numerals in range are read above; this names the fault, or reads a long one.
+        _ => exact_number_at(pieces, most),
+    }
+}
+
 /// A number of at most so much, in a byte.
+#[inline(always)]
 pub fn small_at(pieces: Pieces<'_>, most: u8) -> Result<(u8, Pieces<'_>), LineFault>
     ensures { Gives (λ x. (x.0, left x.1)) result (next_piece (number_within most) (left pieces.entry)) }
 {
@@ -50,6 +65,7 @@ pub fn small_at(pieces: Pieces<'_>, most: u8) -> Result<(u8, Pieces<'_>), LineFa
 }
 
 /// A number of 32 bits.
+#[inline(always)]
 pub fn wide_at(pieces: Pieces<'_>) -> Result<(u32, Pieces<'_>), LineFault>
     ensures { Gives (λ x. (x.0, left x.1)) result (next_piece (number_within most_of_32) (left pieces.entry)) }
 {
@@ -57,30 +73,35 @@ pub fn wide_at(pieces: Pieces<'_>) -> Result<(u32, Pieces<'_>), LineFault>
     Ok((number as u32, rest))
 }
 
+#[inline(always)]
 pub fn group_at(pieces: Pieces<'_>) -> Result<(u8, Pieces<'_>), LineFault>
     ensures { Gives (λ x. (x.0, left x.1)) result (group_at (left pieces.entry)) }
 {
     small_at(pieces, LAST_GROUP)
 }
 
+#[inline(always)]
 pub fn base_at(pieces: Pieces<'_>) -> Result<(u8, Pieces<'_>), LineFault>
     ensures { Gives (λ x. (x.0, left x.1)) result (base_at (left pieces.entry)) }
 {
     small_at(pieces, MOST_BASE)
 }
 
+#[inline(always)]
 pub fn cluster_at(pieces: Pieces<'_>) -> Result<(u8, Pieces<'_>), LineFault>
     ensures { Gives (λ x. (x.0, left x.1)) result (cluster_at (left pieces.entry)) }
 {
     small_at(pieces, LAST_CLUSTER)
 }
 
+#[inline(always)]
 pub fn actor_at(pieces: Pieces<'_>) -> Result<(u8, Pieces<'_>), LineFault>
     ensures { Gives (λ x. (x.0, left x.1)) result (actor_at (left pieces.entry)) }
 {
     small_at(pieces, LAST_ACTOR)
 }
 
+#[inline(always)]
 pub fn moment_at(pieces: Pieces<'_>) -> Result<(u64, Pieces<'_>), LineFault>
     ensures { Gives (λ x. (x.0, left x.1)) result (moment_at (left pieces.entry)) }
 {
@@ -99,6 +120,7 @@ fn bound_in(piece: &[u8]) -> Result<Option<u8>, LineFault>
     }
 }
 
+#[inline(always)]
 pub fn bound_at(pieces: Pieces<'_>) -> Result<(Option<u8>, Pieces<'_>), LineFault>
     ensures { Gives (λ x. (x.0, left x.1)) result (bound_at (left pieces.entry)) }
 {
@@ -107,6 +129,7 @@ pub fn bound_at(pieces: Pieces<'_>) -> Result<(Option<u8>, Pieces<'_>), LineFaul
     Ok((bound, rest))
 }
 
+#[inline(always)]
 pub fn bucket_at(pieces: Pieces<'_>) -> Result<(Bucket, Pieces<'_>), LineFault>
     ensures { Gives (λ x. (x.0, left x.1)) result (bucket_at (left pieces.entry)) }
 {
@@ -115,6 +138,7 @@ pub fn bucket_at(pieces: Pieces<'_>) -> Result<(Bucket, Pieces<'_>), LineFault>
     Ok((bucket, rest))
 }
 
+#[inline(always)]
 pub fn end_at(pieces: Pieces<'_>) -> Result<(bool, Pieces<'_>), LineFault>
     ensures { Gives (λ x. (x.0, left x.1)) result (end_at (left pieces.entry)) }
 {

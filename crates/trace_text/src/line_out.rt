@@ -1,6 +1,6 @@
 //! A buffer for one line.
 
-ghost use Rattle.std.specs.Prelude.{◌≡◌, ◌≤◌, ◌+◌, ◌++◌, List, ℕ, [], length, take};
+ghost use Rattle.std.specs.Prelude.{◌≡◌, ◌≤◌, List, ℕ, [], take};
 
 use std::marker::Model;
 
@@ -10,8 +10,8 @@ const SIZE: usize = 160;
 /// A fixed buffer of 160 bytes, enough for every line that is written.
 #[derive(Drop)]
 pub struct LineOut {
-    buffer: [u8; 160],
-    len: usize,
+    pub(crate) buffer: [u8; 160],
+    pub(crate) len: usize,
 }
 
 impl Model for LineOut {
@@ -38,22 +38,5 @@ impl LineOut {
         ensures { result.now ≡ self.now }
     {
         &self.buffer[..self.len]
-    }
-
-    /// Forgets what was written.
-    pub(crate) fn clear(&mut self)
-        ensures { self.new ≡ [] }
-    {
-        self.len = 0;
-    }
-
-    /// Appends bytes.
-    pub(crate) fn push(&mut self, bytes: &[u8])
-        requires { length self.old + length bytes.now ≤ 160 }
-        ensures { self.new ≡ self.old ++ bytes.now }
-    {
-        let end = self.len + bytes.len();
-        self.buffer[self.len..end].copy_from_slice(bytes);
-        self.len = end;
     }
 }

@@ -1,10 +1,48 @@
 //! Numerals.
 
-ghost use Rattle.std.specs.Prelude.{◌≡◌, ◌≤◌, ◌+◌, ◌*◌, ℕ, IsTrue};
-ghost use Rattle.flat_policy.specs.Texts.Pieces.{number_within, is_digit, digit_value};
+ghost use Rattle.std.specs.Prelude.{◌≡◌, ◌≤◌, ◌+◌, ◌*◌, ℕ, IsTrue, length, take, true};
+ghost use Rattle.std.specs.List.{list_all};
+ghost use Rattle.flat_policy.specs.Texts.Pieces.{number_within, is_digit, is_numeral, digit_value, numeral_value};
 ghost use Rattle.trace_text.specs.Reading.{Gives, within_64, digits_read};
 
 use flat_policy::texts::LineFault;
+
+/// Below this a number may have one more digit in 64 bits.
+const ROOM_FOR_A_DIGIT: u64 = 1_000_000_000_000_000_000;
+
+/// The number that the digits at the front write, and how many they are: all of them, or as many as
+/// 64 bits surely hold.
+#[inline(always)]
+#[tactic(auto, using(crate::proofs::Scanning::digits_more, crate::proofs::Scanning::value_more))]
+pub fn leading_number(text: &[u8]) -> (u64, usize)
+    ensures within { result.1 ≤ length text.now }
+    ensures digits { list_all is_digit (take result.1 text.now) ≡ true }
+    ensures value { result.0 ≡ numeral_value (take result.1 text.now) }
+{
+    let mut number: u64 = 0;
+    for count in 0..text.len() {
+        let b = text[count];
+        if !b.is_ascii_digit() || number >= ROOM_FOR_A_DIGIT {
+            return (number, count);
+        }
+        number = number * 10 + u64::from(b - b'0');
+    }
+    (number, text.len())
+}
+
+/// Whether so many digits at the front are a numeral: one of them, or more that begin with none of 0.
+#[inline(always)]
+#[tactic(auto, using(crate::proofs::Scanning::one_numeral, crate::proofs::Scanning::more_numeral))]
+pub fn begins_with_numeral(text: &[u8], count: usize) -> bool
+    requires within { count ≤ length text.now }
+    requires digits { list_all is_digit (take count text.now) ≡ true }
+    ensures { result ≡ true → is_numeral (take count text.now) ≡ true }
+{
+    if count <= 1 {
+        return count == 1;
+    }
+    text[0] != b'0'
+}
 
 /// A number and one more digit; `None` where it passes 64 bits.
 fn with_digit(number: Option<u64>, digit: u8) -> Option<u64>

@@ -1,11 +1,12 @@
 //! The pieces of a line, one after the other.
 
-ghost use Rattle.std.specs.Prelude.{◌≡◌, ◌∷◌, ◌↔◌, [], IfSome, IfNone, IsTrue};
+ghost use Rattle.std.specs.Prelude.{◌≡◌, ◌∷◌, ◌↔◌, [], IfSome, IfNone, IsTrue, false, length, take, true};
 ghost use Rattle.std.specs.Option.{option_copied};
 ghost use Rattle.flat_policy.specs.Texts.Pieces.{pieces, next_piece, at_end};
-ghost use Rattle.trace_text.specs.Reading.{Gives, left, as_it_is, piece_among};
-ghost use Rattle.trace_text.specs.Spaces.{IsFirstSpace, HasNoSpace};
+ghost use Rattle.trace_text.specs.Reading.{BeginsPlain, Follows, Gives, IsNumberNext, left, as_it_is, is_next, piece_among};
+ghost use Rattle.trace_text.specs.Spaces.{IsFirstSpace, HasNoSpace, is_plain};
 
+use crate::numerals::{begins_with_numeral, leading_number};
 use flat_policy::texts::LineFault;
 
 /// What is left of a line, from the start of a piece on; nothing after the last piece.
@@ -50,6 +51,71 @@ pub fn next(pieces: Pieces<'_>) -> Result<(&[u8], Pieces<'_>), LineFault>
         Some(text) => Ok(split(text)),
         None => Err(LineFault::Word),
     }
+}
+
+/// What stands behind a piece: nothing, or a space and the next piece.
+#[inline(always)]
+fn behind(text: &[u8]) -> Option<Pieces<'_>>
+    ensures some { IfSome result (λ rest. Follows text.now (left rest)) }
+    ensures none { IfNone result (BeginsPlain text.now) }
+{
+    match text {
+        [] => Some(Pieces { rest: None }),
+        [b' ', others @ ..] => {
+            let rest = Some(others);
+            Some(Pieces { rest })
+        }
+        _ => None,
+    }
+}
+
+/// Whether a text begins with a word.
+#[inline(always)]
+#[tactic(auto, using(crate::proofs::Scanning::short_other, crate::proofs::Scanning::byte_other, crate::proofs::Scanning::front_more))]
+fn begins_with(text: &[u8], word: &[u8]) -> bool
+    ensures yes { result ≡ true → take (length word.now) text.now ≡ word.now }
+    ensures no { result ≡ false → is_next word.now (pieces text.now) ≡ false }
+{
+    if text.len() < word.len() {
+        return false;
+    }
+    for i in 0..word.len() {
+        if text[i] != word[i] {
+            return false;
+        }
+    }
+    true
+}
+
+/// The pieces behind a word that is the next piece; `None` exactly where another piece is the next.
+#[inline(always)]
+#[tactic(auto, using(crate::proofs::Scanning::word_starts, crate::proofs::Scanning::word_goes_on))]
+pub fn behind_word<'a>(text: &'a [u8], word: &[u8]) -> Option<Pieces<'a>>
+    requires { is_plain word.now ≡ true }
+    ensures found { IfSome result (λ rest. pieces text.now ≡ word.now ∷ left rest) }
+    ensures none { IfNone result (is_next word.now (pieces text.now) ≡ false) }
+{
+    if !begins_with(text, word) {
+        return None;
+    }
+    let rest = behind(&text[word.len()..])?;
+    Some(rest)
+}
+
+/// The number that the next piece writes, and the pieces behind it; `None` where that piece is no
+/// numeral, and where it is one of more than 18 digits.
+#[inline(always)]
+#[tactic(auto, using(crate::proofs::Scanning::number_next))]
+pub fn next_number(pieces: Pieces<'_>) -> Option<(u64, Pieces<'_>)>
+    ensures { IfSome result (λ x. IsNumberNext (left pieces.entry) x.0 (left x.1)) }
+{
+    let text = pieces.rest?;
+    let (number, count) = leading_number(text);
+    if !begins_with_numeral(text, count) {
+        return None;
+    }
+    let rest = behind(&text[count..])?;
+    Some((number, rest))
 }
 
 /// Whether no piece is left.

@@ -55,6 +55,9 @@ fn lines_of_a_trace(rt: HostRuntime) {
         ("0 16 select", Err(LineFault::Range)),
         ("0 0", Err(LineFault::Word)),
         ("0 0 jump", Err(LineFault::Word)),
+        ("0 0 selects", Err(LineFault::Word)),
+        ("0x 0 select", Err(LineFault::Number)),
+        ("0 0 on 15", asked(0, 0, Act::On { cluster: 15 })),
         ("0 0 select ", Err(LineFault::Word)),
         ("0 0 make 1 0 FG 127 -", asked(0, 0, make)),
         (
@@ -215,6 +218,20 @@ fn written_lines(rt: HostRuntime) {
     assert_eq!(rt; out.bytes(), text.as_slice());
     write_bare(&mut out, &Answer::LookFirst(3));
     assert_eq!(rt; out.bytes(), b"no LookFirst 3".as_slice());
+}
+
+#[test]
+fn gathered_lines(rt: HostRuntime) -> Result<(), Fail> {
+    let mut page = Page::new(rt.alloc())?;
+    page.write_bytes(b"setup\n");
+    page.write_line(&MAKE, &Answer::Work(u64::MAX));
+    let text =
+        b"setup\n1099511627775 15 make 4294967295 63 IN 127 15 = work 18446744073709551615\n";
+    assert_eq!(rt; page.bytes(), text.as_slice());
+    assert_eq!(rt; page.room(), 16_384 - text.len());
+    page.clear();
+    assert!(rt; page.is_empty());
+    Ok(())
 }
 
 #[test]

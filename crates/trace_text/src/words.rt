@@ -3,7 +3,6 @@
 ghost use Rattle.std.specs.Prelude.{◌≡◌};
 ghost use Rattle.flat_policy.specs.Texts.Pieces.{value_of_word, bucket_words, end_words};
 ghost use Rattle.trace_text.specs.Naming.{
-  act_names,
   answer_names,
   place_names,
   refusal_names,
@@ -34,51 +33,6 @@ pub fn end_of(word: &[u8]) -> Option<bool>
     match word {
         b"head" => Some(true),
         b"tail" => Some(false),
-        _ => None,
-    }
-}
-
-/// The words that an act begins with.
-#[derive(Clone, Copy)]
-pub enum ActWord {
-    Make,
-    Enter,
-    Select,
-    Offer,
-    Pull,
-    Look,
-    Aim,
-    Ran,
-    Sleep,
-    Wake,
-    End,
-    Blocked,
-    Refresh,
-    Off,
-    On,
-}
-
-/// The name of a word of an act.
-#[tactic(auto, using(crate::proofs::NoWord::long_is_no_act, crate::proofs::NoWord::other_is_no_act))]
-pub fn act_word(word: &[u8]) -> Option<ActWord>
-    ensures { result ≡ value_of_word act_names word.now }
-{
-    match word {
-        b"make" => Some(ActWord::Make),
-        b"enter" => Some(ActWord::Enter),
-        b"select" => Some(ActWord::Select),
-        b"offer" => Some(ActWord::Offer),
-        b"pull" => Some(ActWord::Pull),
-        b"look" => Some(ActWord::Look),
-        b"aim" => Some(ActWord::Aim),
-        b"ran" => Some(ActWord::Ran),
-        b"sleep" => Some(ActWord::Sleep),
-        b"wake" => Some(ActWord::Wake),
-        b"end" => Some(ActWord::End),
-        b"blocked" => Some(ActWord::Blocked),
-        b"refresh" => Some(ActWord::Refresh),
-        b"off" => Some(ActWord::Off),
-        b"on" => Some(ActWord::On),
         _ => None,
     }
 }

@@ -1,53 +1,49 @@
 //! Steps and answers, written.
 
-ghost use Rattle.std.specs.Prelude.{◌≡◌, ◌≤◌, ◌+◌, ◌++◌, ◌∷◌, codes, length};
+ghost use Rattle.std.specs.Prelude.{◌≡◌, ◌≤◌, ◌+◌, ◌++◌, ◌∷◌, codes, decimal, length, take};
 ghost use Rattle.flat_policy.specs.Texts.Pieces.{bound_piece, bucket_piece, end_piece, spaced};
 ghost use Rattle.flat_policy.specs.Texts.Steps.{act_pieces, step_text};
 ghost use Rattle.flat_policy.specs.Texts.Answers.{answer_text, place_pieces};
 ghost use Rattle.trace_text.specs.Writing.{AnswerFits, IsStepText, StepFits, answer_part};
 
 use crate::line_out::LineOut;
-use itoa::{Buffer, Integer};
+use crate::placing::{put, put_long, put_small, put_wide};
 use sched_base::{Act, Answer, Bucket, Place, Step};
 
-/// Appends a number.
-fn put_number<I: Integer>(out: &mut LineOut, number: I)
-    requires { length out.old + I.MAX_STR_LEN ≤ 160 }
-    ensures text { out.new ≡ out.old ++ I.text number }
-    ensures room { length out.new ≤ length out.old + I.MAX_STR_LEN }
+/// Puts a word and a number of 8 bits behind it.
+#[inline(always)]
+fn put_with_small(room: &mut [u8], at: usize, word: &[u8], number: u8) -> usize
+    requires { at + (length word.now + 3) ≤ length room.old }
+    ensures text { take result room.new ≡ take at room.old ++ (word.now ++ decimal number) }
+    ensures most { result ≤ at + (length word.now + 3) }
+    ensures long { length room.new ≡ length room.old }
 {
-    let mut digits = Buffer::new();
-    out.push(digits.format(number).as_bytes());
+    let end = put(room, at, word);
+    put_small(room, end, number)
 }
 
-/// Appends a word behind a space.
-fn put_word(out: &mut LineOut, word: &[u8])
-    requires { length out.old + (1 + length word.now) ≤ 160 }
-    ensures text { out.new ≡ out.old ++ 32 ∷ word.now }
-    ensures room { length out.new ≡ length out.old + (1 + length word.now) }
+/// Puts a word and a number of 32 bits behind it.
+#[inline(always)]
+fn put_with_wide(room: &mut [u8], at: usize, word: &[u8], number: u32) -> usize
+    requires { at + (length word.now + 10) ≤ length room.old }
+    ensures text { take result room.new ≡ take at room.old ++ (word.now ++ decimal number) }
+    ensures most { result ≤ at + (length word.now + 10) }
+    ensures long { length room.new ≡ length room.old }
 {
-    out.push(b" ");
-    out.push(word);
+    let end = put(room, at, word);
+    put_wide(room, end, number)
 }
 
-/// Appends a number behind a space.
-fn put_field<I: Integer>(out: &mut LineOut, number: I)
-    requires { length out.old + (1 + I.MAX_STR_LEN) ≤ 160 }
-    ensures text { out.new ≡ out.old ++ 32 ∷ I.text number }
-    ensures room { length out.new ≤ length out.old + (1 + I.MAX_STR_LEN) }
+/// Puts a word and a number of 64 bits behind it.
+#[inline(always)]
+fn put_with_long(room: &mut [u8], at: usize, word: &[u8], number: u64) -> usize
+    requires { at + (length word.now + 20) ≤ length room.old }
+    ensures text { take result room.new ≡ take at room.old ++ (word.now ++ decimal number) }
+    ensures most { result ≤ at + (length word.now + 20) }
+    ensures long { length room.new ≡ length room.old }
 {
-    out.push(b" ");
-    put_number(out, number);
-}
-
-/// Appends a word, and a number behind a space.
-fn put_with<I: Integer>(out: &mut LineOut, word: &[u8], number: I)
-    requires { length out.old + (1 + length word.now + I.MAX_STR_LEN) ≤ 160 }
-    ensures text { out.new ≡ out.old ++ (word.now ++ 32 ∷ I.text number) }
-    ensures room { length out.new ≤ length out.old + (1 + length word.now + I.MAX_STR_LEN) }
-{
-    out.push(word);
-    put_field(out, number);
+    let end = put(room, at, word);
+    put_long(room, end, number)
 }
 
 fn bucket_bytes(bucket: Bucket) -> &'static [u8]
@@ -71,40 +67,61 @@ fn end_bytes(head: bool) -> &'static [u8]
     if head { b"head" } else { b"tail" }
 }
 
-fn put_bound(out: &mut LineOut, bound: Option<u8>)
-    requires { length out.old + 4 ≤ 160 }
-    ensures text { out.new ≡ out.old ++ 32 ∷ bound_piece bound }
-    ensures room { length out.new ≤ length out.old + 4 }
+/// Puts a cluster that a thread is bound to, or `-`.
+fn put_bound(room: &mut [u8], at: usize, bound: Option<u8>) -> usize
+    requires { at + 3 ≤ length room.old }
+    ensures text { take result room.new ≡ take at room.old ++ bound_piece bound }
+    ensures most { result ≤ at + 3 }
+    ensures long { length room.new ≡ length room.old }
 {
     match bound {
-        None => put_word(out, b"-"),
-        Some(cluster) => put_field(out, cluster),
+        None => put(room, at, b"-"),
+        Some(cluster) => put_small(room, at, cluster),
     }
 }
 
-fn put_make(out: &mut LineOut, name: u32, group: u8, bucket: Bucket, base: u8, bound: Option<u8>)
-    requires { length out.old + 34 ≤ 160 }
-    ensures { out.new ≡ out.old ++ spaced (act_pieces (Act.Make name group bucket base bound)) }
+fn put_make(
+    room: &mut [u8],
+    at: usize,
+    name: u32,
+    group: u8,
+    bucket: Bucket,
+    base: u8,
+    bound: Option<u8>,
+) -> usize
+    requires { at + 32 ≤ length room.old }
+    ensures text { take result room.new ≡ take at room.old ++ spaced (act_pieces (Act.Make name group bucket base bound)) }
+    ensures most { result ≤ at + 32 }
+    ensures long { length room.new ≡ length room.old }
 {
-    put_with(out, b"make", name);
-    put_field(out, group);
-    put_word(out, bucket_bytes(bucket));
-    put_field(out, base);
-    put_bound(out, bound);
+    let at = put_with_wide(room, at, b"make ", name);
+    let at = put_with_small(room, at, b" ", group);
+    let at = put(room, at, b" ");
+    let at = put(room, at, bucket_bytes(bucket));
+    let at = put_with_small(room, at, b" ", base);
+    let at = put(room, at, b" ");
+    put_bound(room, at, bound)
 }
 
-fn put_enter(out: &mut LineOut, cluster: u8, head: bool)
-    requires { length out.old + 14 ≤ 160 }
-    ensures { out.new ≡ out.old ++ spaced (act_pieces (Act.Enter cluster head)) }
+#[inline(always)]
+fn put_enter(room: &mut [u8], at: usize, cluster: u8, head: bool) -> usize
+    requires { at + 14 ≤ length room.old }
+    ensures text { take result room.new ≡ take at room.old ++ spaced (act_pieces (Act.Enter cluster head)) }
+    ensures most { result ≤ at + 14 }
+    ensures long { length room.new ≡ length room.old }
 {
-    put_with(out, b"enter", cluster);
-    put_word(out, end_bytes(head));
+    let at = put_with_small(room, at, b"enter ", cluster);
+    let at = put(room, at, b" ");
+    put(room, at, end_bytes(head))
 }
 
-/// Appends an act.
-fn put_act(out: &mut LineOut, act: &Act)
-    requires { length out.old + 34 ≤ 160 }
-    ensures { out.new ≡ out.old ++ spaced (act_pieces act.now) }
+/// Puts an act.
+#[inline(always)]
+fn put_act(room: &mut [u8], at: usize, act: &Act) -> usize
+    requires { at + 32 ≤ length room.old }
+    ensures text { take result room.new ≡ take at room.old ++ spaced (act_pieces act.now) }
+    ensures most { result ≤ at + 32 }
+    ensures long { length room.new ≡ length room.old }
 {
     match *act {
         Act::Make {
@@ -113,101 +130,129 @@ fn put_act(out: &mut LineOut, act: &Act)
             bucket,
             base,
             bound,
-        } => put_make(out, name, group, bucket, base, bound),
-        Act::Enter { cluster, head } => put_enter(out, cluster, head),
-        Act::Select => out.push(b"select"),
-        Act::Offer { cluster } => put_with(out, b"offer", cluster),
-        Act::Pull { name } => put_with(out, b"pull", name),
-        Act::Look { cluster } => put_with(out, b"look", cluster),
-        Act::Aim => out.push(b"aim"),
-        Act::Ran { us } => put_with(out, b"ran", us),
-        Act::Sleep => out.push(b"sleep"),
-        Act::Wake { name } => put_with(out, b"wake", name),
-        Act::End => out.push(b"end"),
-        Act::Blocked => out.push(b"blocked"),
-        Act::Refresh => out.push(b"refresh"),
-        Act::Off { cluster } => put_with(out, b"off", cluster),
-        Act::On { cluster } => put_with(out, b"on", cluster),
+        } => put_make(room, at, name, group, bucket, base, bound),
+        Act::Enter { cluster, head } => put_enter(room, at, cluster, head),
+        Act::Select => put(room, at, b"select"),
+        Act::Offer { cluster } => put_with_small(room, at, b"offer ", cluster),
+        Act::Pull { name } => put_with_wide(room, at, b"pull ", name),
+        Act::Look { cluster } => put_with_small(room, at, b"look ", cluster),
+        Act::Aim => put(room, at, b"aim"),
+        Act::Ran { us } => put_with_wide(room, at, b"ran ", us),
+        Act::Sleep => put(room, at, b"sleep"),
+        Act::Wake { name } => put_with_wide(room, at, b"wake ", name),
+        Act::End => put(room, at, b"end"),
+        Act::Blocked => put(room, at, b"blocked"),
+        Act::Refresh => put(room, at, b"refresh"),
+        Act::Off { cluster } => put_with_small(room, at, b"off ", cluster),
+        Act::On { cluster } => put_with_small(room, at, b"on ", cluster),
     }
 }
 
-/// Appends a place.
-fn put_place(out: &mut LineOut, place: Place)
-    requires { length out.old + 8 ≤ 160 }
-    ensures text { out.new ≡ out.old ++ spaced (place_pieces place) }
-    ensures room { length out.new ≤ length out.old + 8 }
+/// Puts a place.
+fn put_place(room: &mut [u8], at: usize, place: Place) -> usize
+    requires { at + 8 ≤ length room.old }
+    ensures text { take result room.new ≡ take at room.old ++ spaced (place_pieces place) }
+    ensures most { result ≤ at + 8 }
+    ensures long { length room.new ≡ length room.old }
 {
     match place {
-        Place::Queue(cluster) => put_with(out, b"q", cluster),
-        Place::Hand(actor) => put_with(out, b"hand", actor),
-        Place::Blocked => out.push(b"blocked"),
-        Place::Ended => out.push(b"ended"),
-        Place::Nowhere => out.push(b"none"),
+        Place::Queue(cluster) => put_with_small(room, at, b"q ", cluster),
+        Place::Hand(actor) => put_with_small(room, at, b"hand ", actor),
+        Place::Blocked => put(room, at, b"blocked"),
+        Place::Ended => put(room, at, b"ended"),
+        Place::Nowhere => put(room, at, b"none"),
     }
 }
 
 #[tactic(auto, using(crate::proofs::Texts::not_blocked_text))]
-fn put_not_blocked(out: &mut LineOut, place: Place)
-    requires { length out.old + 22 ≤ 160 }
-    ensures text { out.new ≡ out.old ++ answer_text (Answer.NotBlocked place) }
-    ensures room { length out.new ≤ length out.old + 22 }
+fn put_not_blocked(room: &mut [u8], at: usize, place: Place) -> usize
+    requires { at + 22 ≤ length room.old }
+    ensures text { take result room.new ≡ take at room.old ++ answer_text (Answer.NotBlocked place) }
+    ensures most { result ≤ at + 22 }
+    ensures long { length room.new ≡ length room.old }
 {
-    out.push(b"no NotBlocked ");
-    put_place(out, place);
+    let at = put(room, at, b"no NotBlocked ");
+    put_place(room, at, place)
 }
 
 #[tactic(auto, using(crate::proofs::Texts::not_queued_text))]
-fn put_not_queued(out: &mut LineOut, place: Place)
-    requires { length out.old + 21 ≤ 160 }
-    ensures text { out.new ≡ out.old ++ answer_text (Answer.NotQueued place) }
-    ensures room { length out.new ≤ length out.old + 21 }
+fn put_not_queued(room: &mut [u8], at: usize, place: Place) -> usize
+    requires { at + 21 ≤ length room.old }
+    ensures text { take result room.new ≡ take at room.old ++ answer_text (Answer.NotQueued place) }
+    ensures most { result ≤ at + 21 }
+    ensures long { length room.new ≡ length room.old }
 {
-    out.push(b"no NotQueued ");
-    put_place(out, place);
+    let at = put(room, at, b"no NotQueued ");
+    put_place(room, at, place)
 }
 
-/// Appends an answer.
-fn put_answer(out: &mut LineOut, answer: &Answer)
-    requires { length out.old + 25 ≤ 160 }
-    ensures text { out.new ≡ out.old ++ answer_text answer.now }
-    ensures room { length out.new ≤ length out.old + 25 }
+/// Puts an answer.
+#[inline(always)]
+fn put_answer(room: &mut [u8], at: usize, answer: &Answer) -> usize
+    requires { at + 25 ≤ length room.old }
+    ensures text { take result room.new ≡ take at room.old ++ answer_text answer.now }
+    ensures most { result ≤ at + 25 }
+    ensures long { length room.new ≡ length room.old }
 {
     match *answer {
-        Answer::Yes => out.push(b"ok"),
-        Answer::Pri(priority) => put_with(out, b"pri", priority),
-        Answer::Got(name) => put_with(out, b"got", name),
-        Answer::Empty => out.push(b"-"),
-        Answer::Off => out.push(b"off"),
-        Answer::Load(load) => put_with(out, b"load", load),
-        Answer::To(cluster) => put_with(out, b"to", cluster),
-        Answer::New(count) => put_with(out, b"new", count),
-        Answer::Left(count) => put_with(out, b"left", count),
-        Answer::Work(work) => put_with(out, b"work", work),
-        Answer::HandFull => out.push(b"no HandFull"),
-        Answer::HandEmpty => out.push(b"no HandEmpty"),
-        Answer::NameUsed => out.push(b"no NameUsed"),
-        Answer::NoRoom => out.push(b"no NoRoom"),
-        Answer::NotBlocked(place) => put_not_blocked(out, place),
-        Answer::NotQueued(place) => put_not_queued(out, place),
-        Answer::OwnCluster => out.push(b"no OwnCluster"),
-        Answer::NotAllowed => out.push(b"no NotAllowed"),
-        Answer::LookFirst(cluster) => put_with(out, b"no LookFirst", cluster),
+        Answer::Yes => put(room, at, b"ok"),
+        Answer::Pri(priority) => put_with_small(room, at, b"pri ", priority),
+        Answer::Got(name) => put_with_wide(room, at, b"got ", name),
+        Answer::Empty => put(room, at, b"-"),
+        Answer::Off => put(room, at, b"off"),
+        Answer::Load(load) => put_with_wide(room, at, b"load ", load),
+        Answer::To(cluster) => put_with_small(room, at, b"to ", cluster),
+        Answer::New(count) => put_with_wide(room, at, b"new ", count),
+        Answer::Left(count) => put_with_wide(room, at, b"left ", count),
+        Answer::Work(work) => put_with_long(room, at, b"work ", work),
+        Answer::HandFull => put(room, at, b"no HandFull"),
+        Answer::HandEmpty => put(room, at, b"no HandEmpty"),
+        Answer::NameUsed => put(room, at, b"no NameUsed"),
+        Answer::NoRoom => put(room, at, b"no NoRoom"),
+        Answer::NotBlocked(place) => put_not_blocked(room, at, place),
+        Answer::NotQueued(place) => put_not_queued(room, at, place),
+        Answer::OwnCluster => put(room, at, b"no OwnCluster"),
+        Answer::NotAllowed => put(room, at, b"no NotAllowed"),
+        Answer::LookFirst(cluster) => put_with_small(room, at, b"no LookFirst ", cluster),
     }
 }
 
-/// Replaces the contents by the text of a step whose numbers are in the ranges of lines.
+/// Puts a step.
+#[inline(always)]
 #[tactic(auto, using(crate::proofs::Texts::step_text_is))]
+pub(crate) fn put_step(room: &mut [u8], at: usize, s: &Step) -> usize
+    requires { at + 57 ≤ length room.old }
+    ensures text { take result room.new ≡ take at room.old ++ step_text s.now }
+    ensures most { result ≤ at + 57 }
+    ensures long { length room.new ≡ length room.old }
+{
+    let at = put_long(room, at, s.moment);
+    let at = put_with_small(room, at, b" ", s.actor);
+    let at = put(room, at, b" ");
+    put_act(room, at, &s.act)
+}
+
+/// Puts ` = `, an answer and a newline.
+#[inline(always)]
+pub(crate) fn put_answer_part(room: &mut [u8], at: usize, a: &Answer) -> usize
+    requires { at + 29 ≤ length room.old }
+    ensures text { take result room.new ≡ take at room.old ++ answer_part a.now }
+    ensures most { result ≤ at + 29 }
+    ensures long { length room.new ≡ length room.old }
+{
+    let at = put(room, at, b" = ");
+    let at = put_answer(room, at, a);
+    put(room, at, b"\n")
+}
+
+/// Replaces the contents by the text of a step whose numbers are in the ranges of lines.
 pub fn write_step(out: &mut LineOut, s: &Step)
     requires { StepFits s.now }
     ensures text { out.new ≡ step_text s.now }
     // So `write_answer` may follow.
     ensures written { IsStepText out.new }
 {
-    out.clear();
-    put_number(out, s.moment);
-    put_field(out, s.actor);
-    out.push(b" ");
-    put_act(out, &s.act);
+    out.len = put_step(&mut out.buffer, 0, s);
 }
 
 /// Replaces the contents by the text of an answer alone, whose numbers are in the ranges of lines.
@@ -215,8 +260,7 @@ pub fn write_bare(out: &mut LineOut, a: &Answer)
     requires { AnswerFits a.now }
     ensures { out.new ≡ answer_text a.now }
 {
-    out.clear();
-    put_answer(out, a);
+    out.len = put_answer(&mut out.buffer, 0, a);
 }
 
 /// Appends ` = `, the text of an answer whose numbers are in the ranges of lines, and a newline to
@@ -226,7 +270,5 @@ pub fn write_answer(out: &mut LineOut, a: &Answer)
     requires answer { AnswerFits a.now }
     ensures { out.new ≡ out.old ++ answer_part a.now }
 {
-    out.push(b" = ");
-    put_answer(out, a);
-    out.push(b"\n");
+    out.len = put_answer_part(&mut out.buffer, out.len, a);
 }

@@ -1,14 +1,16 @@
-use Rattle.std.proofs.Common.{ap, arith, length, length-append}
-use Rattle.trace_text.proofs.Texts.{written_short}
+use Rattle.std.proofs.Common.{arith, length, ◌≤◌}
+use Rattle.trace_text.proofs.Texts.{filled_short}
 use Rattle.trace_text.proofs.writing.write_answer.Goals as goal
 
-pub put_answer-requires : goal.put_answer-requires
-put_answer-requires c =
-    omega (arith, written_short c.args.out.now c.requires.step, simp length-append at (ap length c.push.ensures))
+pub put_answer_part-out-inside-requires : goal.put_answer_part-out-inside-requires
+put_answer_part-out-inside-requires c =
+    let o = c.out.inside in
+    let within : o.len ≤ length o.buffer = omega (arith, c.out.invariant, c.out.told) in
+    omega (arith, c.out.told, filled_short c.args.out.now o.buffer o.len c.requires.step c.out.view_is within)
 
-pub push-requires-2 : goal.push-requires-2
-push-requires-2 c =
-    omega (arith, c.put_answer.ensures.room, written_short c.args.out.now c.requires.step, simp length-append at (ap length c.push.ensures))
-
-pub push-requires : goal.push-requires
-push-requires c = omega (arith, written_short c.args.out.now c.requires.step)
+pub invariant_of-out : goal.invariant_of-out
+invariant_of-out c =
+    let o = c.out.inside in
+    let within : o.len ≤ length o.buffer = omega (arith, c.out.invariant, c.out.told) in
+    let short = filled_short c.args.out.now o.buffer o.len c.requires.step c.out.view_is within in
+    omega (arith, short, c.put_answer_part-out-inside.ensures.most)
