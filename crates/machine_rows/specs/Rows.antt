@@ -1,5 +1,6 @@
 -- Rows of lines, and which line of a row is the first that the policy answers otherwise.
-use Rattle.std.specs.Prelude.{Err, IsTrue, List, None, Ok, Option, Result, Some, [], ℕ, ◌+◌, ◌∷◌, ◌≡◌, ◌⊎◌}
+use Rattle.std.specs.Prelude.{Bool, Err, IsTrue, List, None, Ok, Option, Result, Some, [], false, true, ℕ, ◌+◌, ◌∷◌, ◌≡◌, ◌⊎◌}
+use Rattle.std.specs.Borrow.{Bor}
 use Rattle.sched_base.specs.declared.Answer.{Answer}
 use Rattle.sched_base.specs.declared.Step.{Step}
 use Rattle.flat_policy.specs.Policy.Machine.{MachineState, fits_step, reply, state_after}
@@ -7,7 +8,7 @@ use Rattle.flat_policy.specs.Policy.Setup.{SetupParts}
 use Rattle.flat_policy.specs.Texts.Lines.{read_step_line}
 use Rattle.flat_policy.specs.declared.texts.Given.{Given}
 use Rattle.flat_policy.specs.declared.texts.LineFault.{LineFault}
-use Rattle.trace_machine.specs.Machines.{reply_in}
+use Rattle.trace_machine.specs.Machines.{MachineView, Means, reply_in}
 use Rattle.machine_rows.specs.declared.line.Line.{Line}
 
 -- the line of a step with an answer, where the answer is expected at the step's own moment
@@ -24,6 +25,10 @@ line_from (Ok given) = line_at given.step given.answer
 abbrev pub line_of : List ℕ → Option Line
 line_of text = line_from (read_step_line text)
 
+-- the line that a borrowed text gives
+abbrev pub line_in : Bor (List ℕ) → Option Line
+line_in text = line_of text.now
+
 -- the setup fits the step of a line, and the policy replies as the line says
 abbrev pub Goes : SetupParts → MachineState → Line → Type 0
 Goes setup g line = IsTrue (fits_step setup line.step) × (reply_in (reply setup g line.step) ≡ line.reply)
@@ -33,3 +38,9 @@ abbrev pub FirstUnlike : SetupParts → MachineState → List Line → ℕ → O
 FirstUnlike setup g [] place told = told ≡ None
 FirstUnlike setup g (line ∷ lines) place told =
     ((¬ Goes setup g line) × (told ≡ Some place)) ⊎ (Goes setup g line × FirstUnlike setup (state_after setup g line.step) lines (place + 1) told)
+
+-- whether a line goes is told, from every state that a machine meant; where it goes, the machine means the state after its step
+abbrev pub LineGoes : MachineView → MachineView → Line → Bool → Type 0
+LineGoes old new line true =
+    (g : MachineState) → Means old g → Goes old.parts.setup g line × Means new (state_after old.parts.setup g line.step)
+LineGoes old new line false = (g : MachineState) → Means old g → ¬ Goes old.parts.setup g line

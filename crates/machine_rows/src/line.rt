@@ -1,7 +1,7 @@
 //! Lines of a row, and how they are read.
 
-ghost use Rattle.std.specs.Prelude.{◌≡◌, IfOk, None, Some, length, map};
-ghost use Rattle.machine_rows.specs.Rows.{line_of};
+ghost use Rattle.std.specs.Prelude.{◌≡◌, IfOk, Some, length, map};
+ghost use Rattle.machine_rows.specs.Rows.{line_in, line_of};
 
 use sched_base::Step;
 use std::alloc::{AllocError, Global};
@@ -56,7 +56,7 @@ fn line_of(text: &str) -> Option<Line>
 ///
 /// Errors: the place of the first text that is none, and want of memory.
 pub fn read_lines(alloc: Global, texts: &[&str]) -> Result<Vec<Line>, RowError>
-    ensures read { IfOk result (λ lines. map Some lines.items ≡ map line_of texts.now) }
+    ensures read { IfOk result (λ lines. map Some lines.items ≡ map line_in texts.now) }
     ensures count { IfOk result (λ lines. length lines.items ≡ length texts.now) }
 {
     let mut lines = Vec::new(alloc);

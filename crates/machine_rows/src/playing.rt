@@ -1,18 +1,26 @@
 //! Rows, played by a machine.
 
-ghost use Rattle.std.specs.Prelude.{◌≡◌, ◌×◌, ◌+◌, ◌<◌, ◌≤◌, ◌^◌, IfOk, List, None, Ok, Some, false, length, map, true};
-ghost use Rattle.flat_policy.specs.Policy.Machine.{MachineState, empty_machine, state_after};
+ghost use Rattle.std.specs.Prelude.{◌≡◌, ◌+◌, ◌<◌, ◌≤◌, ◌^◌, ◌↔◌, IfOk, IsTrue, List, Some, length, map};
+ghost use Rattle.flat_policy.specs.Policy.Machine.{MachineState, empty_machine};
 ghost use Rattle.trace_machine.specs.Machines.{IsMachine, Means};
 ghost use Rattle.machine_rows.specs.declared.line.Line.{Line as RowLine};
-ghost use Rattle.machine_rows.specs.Rows.{FirstUnlike, Goes, line_of};
+ghost use Rattle.machine_rows.specs.Rows.{FirstUnlike, LineGoes, line_in};
 
 use crate::line::{Line, RowError, read_lines};
 use flat_policy::cluster::Cluster;
 use flat_policy::setup::Setup;
 use std::alloc::{AllocError, Global};
-use trace_machine::Machine;
+use trace_machine::{Machine, Reply};
 
-/// Whether a line goes as it says. Where the setup doesn't fit its step, the machine stays.
+/// Whether two replies are the same.
+fn is_same(a: &Reply, b: &Reply) -> bool
+    ensures { IsTrue result ↔ a.now ≡ b.now }
+{
+    a == b
+}
+
+/// Takes the step of a line where the setup fits it, and tells whether the line goes as it says.
+#[tactic(auto, using(crate::proofs::Going::still_machine, crate::proofs::Going::still_setup))]
 fn goes<K: Cluster>(
     machine: &mut Machine<K>,
     setup: &Setup,
@@ -24,14 +32,13 @@ fn goes<K: Cluster>(
     ensures machine { IsMachine machine.new }
     ensures setup { machine.new.parts.setup ≡ setup.now }
     ensures few { machine.new.steps ≤ machine.old.steps + 1 }
-    ensures goes { result ≡ Ok true → (g : MachineState) → Means machine.old g → Goes setup.now g line.now × Means machine.new (state_after setup.now g line.now.step) }
-    ensures unlike { result ≡ Ok false → (g : MachineState) → Means machine.old g → ¬ Goes setup.now g line.now }
+    ensures goes { IfOk result (λ told. LineGoes machine.old machine.new line.now told) }
 {
     if !setup.fits(&line.step) {
         return Ok(false);
     }
     let reply = machine.step(&line.step)?;
-    Ok(reply.moment == line.reply.moment && reply.answer == line.reply.answer)
+    Ok(is_same(&reply, &line.reply))
 }
 
 /// The place of the first line that goes otherwise than it says, as `first_unlike` tells it, on a
@@ -46,7 +53,7 @@ fn first_from<K: Cluster>(
     requires few { machine.old.steps + length lines.now ≤ 2 ^ 50 }
     ensures machine { IsMachine machine.new }
     ensures few { machine.new.steps ≤ 2 ^ 50 }
-    ensures first { IfOk result (λ told. (g : MachineState) → Means machine.old g → FirstUnlike setup.now g lines.now 0 told) }
+    ensures first { IfOk result (λ told. (g : MachineState) → Means machine.old g → FirstUnlike machine.old.parts.setup g lines.now 0 told) }
 {
     for (place, line) in lines.iter().enumerate() {
         if !goes(machine, setup, line)? {
@@ -83,7 +90,7 @@ pub fn plays<K: Cluster>(
     texts: &[&str],
 ) -> Result<Option<usize>, RowError>
     requires few { length texts.now < 2 ^ 32 }
-    ensures { IfOk result (λ told. (lines : List RowLine) × (map Some lines ≡ map line_of texts.now) × FirstUnlike setup.now (empty_machine setup.now) lines 0 told) }
+    ensures { IfOk result (λ told. (lines : List RowLine) × (map Some lines ≡ map line_in texts.now) × FirstUnlike setup.now (empty_machine setup.now) lines 0 told) }
 {
     let lines = read_lines(alloc, texts)?;
     Ok(first_unlike::<K>(alloc, setup, &lines)?)
