@@ -7,7 +7,8 @@ use sched_base::{Act, Answer, Bucket, Step};
 use std::test::Fail;
 use trace_machine::Reply;
 
-const MOST: u32 = 512;
+/// The most threads that a setup may have.
+const MOST: u32 = 4096;
 
 /// A line of the first actor at moment 0.
 fn line(act: Act, answer: Answer) -> Line {
@@ -51,7 +52,7 @@ fn four_thousand_threads(rt: HostRuntime) -> Result<(), Fail> {
         lines.push(line(Act::Select, Answer::Got(name)))?;
         lines.push(line(Act::End, Answer::Yes))?;
     }
-    assert_eq!(rt; lines.len(), 1031);
+    assert_eq!(rt; lines.len(), 8199);
     let setup = one_cluster(&rt, MOST as u64)?;
     assert_eq!(rt;
         first_unlike::<PlainCluster>(rt.alloc(), &setup, &lines)?,
