@@ -1,4 +1,4 @@
-//! The lines of traces and runs, read and written. No call here takes memory.
+//! The lines of traces and runs, read and written. Only `Page::new` takes memory.
 #![tactic(auto)]
 
 mod acts;
