@@ -1,19 +1,37 @@
 //! How a replay ends.
 
-/// How a replay ended. `Done` alone is success.
-#[derive(Clone, Copy, Debug, PartialEq, Eq)]
+use flat_policy::texts::{LineFault, SetupFault};
+
+/// How a replay ended. `Done` alone is success. Each other status displays as the line that a
+/// program writes of it to standard error, without the newline.
+#[derive(Clone, Copy, Debug, Drop, PartialEq, Eq, thiserror::Error)]
 pub enum ReplayStatus {
-    /// The input was read to its end, and its answers are written.
+    /// The input was read to its end and is answered, or the load was made.
+    #[error("done")]
     Done,
-    /// There is a word, and none is known.
+    /// The words aren't those that the command takes.
+    #[error("usage: clutch_replay [--load SEED --steps N]")]
     Usage,
-    /// This line, counted from 1, is the first that isn't answered yet; 0 where the input is
-    /// longer than 65,536 bytes. Nothing is written.
-    NotYet { line: u64 },
-    /// The source failed. Nothing is written.
+    /// The setup line, which is line 1, has this fault first.
+    #[error("bad setup: {what}")]
+    BadSetup { what: SetupFault },
+    /// This line, counted from 1, is the first that is outside the grammar or that the setup
+    /// doesn't fit.
+    #[error("bad line {line}: {what}")]
+    BadLine { line: u64, what: LineFault },
+    /// This line, counted from 1, is the first whose given answer isn't the machine's.
+    #[error("answer differs on line {line}")]
+    Differs { line: u64 },
+    /// The input has more than 67,108,864 bytes.
+    #[error("input too long")]
+    TooLong,
+    /// The source failed.
+    #[error("read fault")]
     ReadFault,
-    /// The sink failed. A front of the output is written.
+    /// The sink failed.
+    #[error("write fault")]
     WriteFault,
-    /// Memory ran out. Nothing is written.
+    /// Memory ran out.
+    #[error("out of memory")]
     OutOfMemory,
 }
