@@ -1,0 +1,2 @@
+pub mod LoadAnswers
+pub mod Statuses
