@@ -1,2 +1,4 @@
 pub mod LoadAnswers
+pub mod Replaying
+pub mod SoFar
 pub mod Statuses
