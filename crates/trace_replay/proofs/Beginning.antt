@@ -77,8 +77,8 @@ setup_decides line held what plain within is more stop =
     let rest : List ℕ = take (input_bytes - length (whole_line line)) (held ++ more) in
     subst (λ bs. ComesTo bs stop [] (bad_setup what)) (sym (append_assoc (whole_line line) held more))
     (comes_first (whole_line line ++ (held ++ more)) (whole_line line ++ rest) stop (bad_setup what)
-        (take_past (whole_line line) (held ++ more) input_bytes (omega (arith, long, within)))
-        (first_whole stop line rest plain ∙ ap (λ r. judge_setup r (λ (s : SetupParts). judged_from s stop 2 (empty_machine s) rest)) is))
+    (take_past (whole_line line) (held ++ more) input_bytes (omega (arith, long, within)))
+    (first_whole stop line rest plain ∙ ap (λ r. judge_setup r (λ (s : SetupParts). judged_from s stop 2 (empty_machine s) rest)) is))
 
 pub setup_decides_late : (line held : List ℕ) → HasNoNewline line → length line ≤ setup_limit → length held < piece_bytes → IsDecidedLate (whole_line line ++ held)
 setup_decides_late line held plain short few =
@@ -104,8 +104,8 @@ long_setup_decides held long more stop =
     take-take (suc setup_limit) input_bytes (held ++ more) (omega arith) ∙ take-append-le (suc setup_limit) held more (omega (arith, long.reached)) in
     comes_first (held ++ more) counted stop (bad_setup setup_faults.Long) refl
     (judged_long_first stop (text_lines counted)
-        (long_first setup_limit counted (subst HasNoNewline (sym front) long.plain)
-            (omega (arith, length-take input_bytes (held ++ more), length-append held more, long.reached))))
+    (long_first setup_limit counted (subst HasNoNewline (sym front) long.plain)
+    (omega (arith, length-take input_bytes (held ++ more), length-append held more, long.reached))))
 
 pub long_setup_decides_late : (held : List ℕ) → IsLong setup_limit (input_bytes - 0) held → length held < setup_limit + 1 + piece_bytes → IsDecidedLate held
 long_setup_decides_late held long few =

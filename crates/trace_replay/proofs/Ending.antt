@@ -45,8 +45,8 @@ line_decides setup bytes text number g line held status so plain within faulty m
     append_assoc bytes (whole_line line ++ held) more ∙ ap (λ bs. bytes ++ bs) (append_assoc (whole_line line) held more) in
     subst (λ bs. ComesTo bs stop text status) (sym shift)
     (comes setup bytes text number g (whole_line line ++ (held ++ more)) (whole_line line ++ rest) stop status so
-        (take_past (whole_line line) (held ++ more) c (omega (arith, long, within)))
-        (from_line setup stop number g line rest plain ∙ faulty (λ h. judged_from setup stop (suc number) h rest)))
+    (take_past (whole_line line) (held ++ more) c (omega (arith, long, within)))
+    (from_line setup stop number g line rest plain ∙ faulty (λ h. judged_from setup stop (suc number) h rest)))
 
 -- fewer bytes than a piece were taken behind the line that decided
 pub line_decides_late : (setup : SetupParts) (bytes text : List ℕ) (number : ℕ) (g : MachineState) (line held : List ℕ) → SoFar setup bytes text number g
@@ -92,9 +92,9 @@ long_decides setup bytes text number g held so long more stop =
     ∙ take-append-le (suc line_limit) held more (omega (arith, long.reached)) in
     subst (λ bs. ComesTo bs stop text (bad_line number line_faults.Long)) (sym (append_assoc bytes held more))
     (comes setup bytes text number g (held ++ more) counted stop (bad_line number line_faults.Long) so refl
-        (judged_long setup stop number g (text_lines counted)
-            (long_first line_limit counted (subst HasNoNewline (sym front) long.plain)
-                (omega (arith, length-take c (held ++ more), length-append held more, long.reached, long.counts)))))
+    (judged_long setup stop number g (text_lines counted)
+    (long_first line_limit counted (subst HasNoNewline (sym front) long.plain)
+    (omega (arith, length-take c (held ++ more), length-append held more, long.reached, long.counts)))))
 
 pub long_decides_late : (setup : SetupParts) (bytes text : List ℕ) (number : ℕ) (g : MachineState) (held : List ℕ) → SoFar setup bytes text number g
     → IsLong line_limit (input_bytes - length bytes) held → length held < line_limit + 1 + piece_bytes → IsDecidedLate (bytes ++ held)
@@ -126,7 +126,7 @@ over_comes setup bytes text number g held so over =
     let c : ℕ = input_bytes - length bytes in
     comes setup bytes text number g held (take c held) over_met too_long so refl
     (from_part setup over_met number g (take c held) over.plain
-        ∙ ap stopped (short_part over_met number (take c held) (omega (arith, length-take c held, over.short))))
+    ∙ ap stopped (short_part over_met number (take c held) (omega (arith, length-take c held, over.short))))
 
 -- no line is faulty so far, and few bytes are behind the lines
 pub read_to : (setup : SetupParts) (bytes text : List ℕ) (number : ℕ) (g : MachineState) (tail : List ℕ) → SoFar setup bytes text number g

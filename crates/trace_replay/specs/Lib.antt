@@ -2,3 +2,5 @@ pub mod LoadAnswers
 pub mod Replaying
 pub mod SoFar
 pub mod Statuses
+pub mod Traces
+pub mod UnderWay

@@ -4,5 +4,6 @@
 #![tactic(auto)]
 
 mod status;
+mod trace;
 
 pub use status::ReplayStatus;

@@ -1,6 +1,7 @@
 //! How a replay ends.
 
 use flat_policy::texts::{LineFault, SetupFault};
+use std::alloc::AllocError;
 
 /// How a replay ended. `Done` alone is success. Each other status displays as the line that a
 /// program writes of it to standard error, without the newline.
@@ -34,4 +35,15 @@ pub enum ReplayStatus {
     /// Memory ran out.
     #[error("out of memory")]
     OutOfMemory,
+}
+
+impl From<AllocError> for ReplayStatus {
+    ghost use Rattle.std.specs.Prelude.{◌≡◌};
+    ghost use Rattle.trace_replay.specs.declared.status.ReplayStatus.TheVariants.{OutOfMemory};
+
+    ghost from_gives = { λ _ e. e ≡ OutOfMemory };
+
+    fn from(_error: AllocError) -> ReplayStatus {
+        ReplayStatus::OutOfMemory
+    }
 }
