@@ -1,6 +1,5 @@
 -- The numbers of an answer are in the ranges of lines, act by act.
-use Rattle.std.proofs.Common.{◌≡◌, ◌<◌, ◌≤◌, ◌+◌, ◌-◌, ◌*◌, ◌/◌, ◌^◌, ◌==◌, ◌&&◌, ℕ, All, Bool, Err, IfSome, IsTrue, List, [], ◌∷◌, None, Ok, Option, Result, Some, arith, cond, count_by, get_or, length, min, nat_le, not, refl, subst, sym, unwrap_or}
-use Rattle.std.specs.List.{AllByRecursion}
+use Rattle.std.proofs.Common.{◌≡◌, ◌<◌, ◌≤◌, ◌*◌, ◌/◌, ◌^◌, ◌==◌, ◌&&◌, ℕ, All, Bool, Err, IfSome, List, [], None, Ok, Option, Result, Some, arith, count_by, length, nat_le, not, refl}
 use Rattle.std.proofs.Math.Nat.{div-le_self}
 use Rattle.std.proofs.lemmas.Bool.{cond_both}
 use Rattle.std.proofs.lemmas.List.Elements.{All-contains, All-filter, All-get_or, All-nil, All-weaker}
@@ -9,7 +8,6 @@ use Rattle.std.proofs.lemmas.Nat.{mul-le}
 use Rattle.sched_base.specs.Bucket.{index}
 use Rattle.sched_base.specs.Limits.{most_base}
 use Rattle.sched_base.specs.declared.Act.{Act}
-use Rattle.sched_base.specs.declared.Answer.{Answer}
 use Rattle.sched_base.specs.declared.Bucket.{Bucket}
 use Rattle.sched_base.specs.declared.Bucket.TheVariants.{Bg, Df, Fg, Ini, Ui, Ut}
 use Rattle.sched_base.specs.declared.Facts.{Facts}
@@ -17,11 +15,11 @@ use Rattle.flat_policy.specs.declared.setup.Times.{Times}
 use Rattle.flat_policy.specs.Laws.Aims.{AimMayBeEntered}
 use Rattle.flat_policy.specs.Laws.Counts.{StaysWithin}
 use Rattle.flat_policy.specs.Laws.Sound.{FittingPrefersAmong, Sound}
-use Rattle.flat_policy.specs.Policy.Aim.{Look, aim, load, not_looked}
+use Rattle.flat_policy.specs.Policy.Aim.{Look, aim, load}
 use Rattle.flat_policy.specs.Policy.BuiltSetups.{IsClusterTimes, IsSetup, IsTimes}
-use Rattle.flat_policy.specs.Policy.ClusterSteps.{Event, got, look_event, named_entry, offer_event, refresh_event, select_event}
-use Rattle.flat_policy.specs.Policy.Machine.{Hand, MachineState, Outcome, Refusal, Sleeper, accepted_by, aim_answer, aim_outcome, end_outcome, enter_outcome, first_refusal, flat_at, hand_at, live_count, look_first, look_first_by, look_outcome, not_allowed, place_of, pull_outcome, ran_outcome, refusals_by, refuse, sleep_outcome, sleeper_of, wake_outcome}
-use Rattle.flat_policy.specs.Policy.Moves.{new_entry, pick, pick_in, settled_thread}
+use Rattle.flat_policy.specs.Policy.ClusterSteps.{Event, got, named_entry, offer_event, select_event}
+use Rattle.flat_policy.specs.Policy.Machine.{Hand, MachineState, Sleeper, accepted_by, aim_answer, aim_outcome, end_outcome, enter_outcome, flat_at, hand_at, live_count, look_outcome, pull_outcome, ran_outcome, sleep_outcome, sleeper_of, wake_outcome}
+use Rattle.flat_policy.specs.Policy.Moves.{pick, pick_in}
 use Rattle.flat_policy.specs.Policy.Offer.{first_there, is_unbound, offered_between, offered_foreign, offered_masked}
 use Rattle.flat_policy.specs.Policy.Queue.{Flat, Queued, empty_flat}
 use Rattle.flat_policy.specs.Policy.Refresh.{repriced, repriced_count}
@@ -30,10 +28,9 @@ use Rattle.flat_policy.specs.Policy.Threads.{ThreadFits}
 use Rattle.flat_policy.specs.Policy.Usage.{priority}
 use Rattle.flat_policy.specs.Policy.Windows.{Choice, chosen, expired}
 use Rattle.trace_text.specs.Writing.{AnswerFits}
-use Rattle.trace_text.proofs.FittingPlaces.{enters_among, missing_among, needed_among, place_fits}
+use Rattle.trace_text.proofs.FittingPlaces.{enters_among, needed_among}
 use Rattle.trace_text.proofs.Found.{all_queued, found_has, found_then, if_some, read_has}
 use Rattle.sched_base.specs.declared.Act.TheVariants as acts
-use Rattle.sched_base.specs.declared.Answer.TheVariants as answers
 
 -- ---- queues
 
@@ -205,46 +202,3 @@ accepted_fits setup g a now acts.Refresh k =
     new_fits (flat_at g (home_of setup a)) now (few_entries setup g (home_of setup a) k.is k.within)
 accepted_fits setup g a now (acts.Off c) k = tt
 accepted_fits setup g a now (acts.On c) k = tt
-
--- ---- refusals
-
--- the answer of each refusal fits
-abbrev pub EachFits : List Refusal → Type 0
-EachFits rs = AllByRecursion (λ (r : Refusal). AnswerFits r.answer) rs
-
-refused_fits : (rs : List Refusal) → EachFits rs → IfSome (first_refusal rs) AnswerFits
-refused_fits [] each = tt
-refused_fits (r ∷ rs) each = cond_both r.holds (Some r.answer) (first_refusal rs) (λ o. IfSome o AnswerFits) (λ e. each.0) (λ e. refused_fits rs each.1)
-
-not_allowed_fits : (setup : SetupParts) (o : Option Facts) (c : ℕ) → AnswerFits (not_allowed setup o c).answer
-not_allowed_fits setup None c = tt
-not_allowed_fits setup (Some t) c = tt
-
-look_first_fits_by : (setup : SetupParts) (o : Option ℕ) → IsSetup setup → IfSome o (λ c. c < cluster_count setup) → AnswerFits (look_first_by o).answer
-look_first_fits_by setup None is among = tt
-look_first_fits_by setup (Some c) is among = omega (arith, among, is.clusters_most)
-
-look_first_fits : (setup : SetupParts) (h : Hand) (o : Option Facts) → IsSetup setup → AnswerFits (look_first setup h o).answer
-look_first_fits setup h None is = tt
-look_first_fits setup h (Some t) is = look_first_fits_by setup (not_looked setup h.looks t) is (missing_among setup h.looks t)
-
-refusals_fit : (setup : SetupParts) (g : MachineState) (a : ℕ) (act : Act) → IsAsked setup g a → EachFits (refusals_by setup g a (hand_at g a) act)
-refusals_fit setup g a (acts.Make name group bucket base bound) k = (tt, (tt, (tt, tt)))
-refusals_fit setup g a (acts.Enter c head) k = (tt, (not_allowed_fits setup (hand_at g a).thread c, tt))
-refusals_fit setup g a acts.Select k = (tt, tt)
-refusals_fit setup g a (acts.Offer c) k = (tt, (tt, tt))
-refusals_fit setup g a (acts.Pull name) k = (tt, (place_fits setup g name k.is k.sound, tt))
-refusals_fit setup g a (acts.Look c) k = (tt, tt)
-refusals_fit setup g a acts.Aim k = (tt, (look_first_fits setup (hand_at g a) (hand_at g a).thread k.is, tt))
-refusals_fit setup g a (acts.Ran us) k = (tt, tt)
-refusals_fit setup g a acts.Sleep k = (tt, tt)
-refusals_fit setup g a (acts.Wake name) k = (tt, (place_fits setup g name k.is k.sound, tt))
-refusals_fit setup g a acts.End k = (tt, tt)
-refusals_fit setup g a acts.Blocked k = tt
-refusals_fit setup g a acts.Refresh k = tt
-refusals_fit setup g a (acts.Off c) k = tt
-refusals_fit setup g a (acts.On c) k = tt
-
--- the answer to a refused act
-pub refusal_fits : (setup : SetupParts) (g : MachineState) (a : ℕ) (act : Act) → IsAsked setup g a → IfSome (first_refusal (refusals_by setup g a (hand_at g a) act)) AnswerFits
-refusal_fits setup g a act k = refused_fits (refusals_by setup g a (hand_at g a) act) (refusals_fit setup g a act k)

@@ -53,8 +53,8 @@ place_fits setup g name is sound =
     either_place (queued_in g.flats 0 name) (unwrap_or (held_by g.hands 0 name) (in_yard g.yard name))
     (queue_place g.flats 0 name (omega (arith, sound.flats_length, is.clusters_most)))
     (either_place (held_by g.hands 0 name) (in_yard g.yard name)
-        (hand_place g.hands 0 name (omega (arith, sound.hands_length, is.actors_most)))
-        (yard_place g.yard name))
+    (hand_place g.hands 0 name (omega (arith, sound.hands_length, is.actors_most)))
+    (yard_place g.yard name))
 
 -- ---- clusters
 

@@ -1,5 +1,5 @@
 -- The numbers of a reply are in the ranges of lines: its step at the effective moment, and its answer.
-use Rattle.std.proofs.Common.{◌≡◌, ◌<◌, ◌&&◌, ℕ, IfSome, IsTrue, None, Option, Some, arith, max, nat_lt}
+use Rattle.std.proofs.Common.{◌<◌, ◌&&◌, ℕ, IfSome, IsTrue, None, Option, Some, arith, max, nat_lt}
 use Rattle.std.proofs.lemmas.Bool.{and_parts, ltb-true}
 use Rattle.sched_base.specs.Limits.{moment_limit}
 use Rattle.sched_base.specs.declared.Answer.{Answer}
@@ -7,13 +7,14 @@ use Rattle.sched_base.specs.declared.Spot.{Spot}
 use Rattle.sched_base.specs.declared.Step.{Step}
 use Rattle.flat_policy.specs.Laws.Aims.{AimMayBeEntered}
 use Rattle.flat_policy.specs.Laws.Sound.{FittingPrefersAmong, Sound}
-use Rattle.flat_policy.specs.Policy.Machine.{MachineState, effective_moment, fits_act, fits_step, flat_at, hand_at, last_at, numbers_fit, outcome_by, refusal, spot_of}
+use Rattle.flat_policy.specs.Policy.Machine.{MachineState, effective_moment, fits_act, fits_step, hand_at, last_at, numbers_fit, outcome_by, refusal, spot_of}
 use Rattle.flat_policy.specs.Policy.Queue.{Flat, empty_flat}
 use Rattle.flat_policy.specs.Policy.Setup.{SetupParts, actor_count}
 use Rattle.trace_text.specs.Laws.{RepliesHaveTexts}
 use Rattle.trace_text.specs.Writing.{AnswerFits}
 use Rattle.trace_text.proofs.Fitting.{step_fits}
-use Rattle.trace_text.proofs.FittingAnswers.{IsAsked, accepted_fits, refusal_fits}
+use Rattle.trace_text.proofs.FittingAnswers.{IsAsked, accepted_fits}
+use Rattle.trace_text.proofs.FittingRefusals.{refusal_fits}
 use Rattle.trace_text.proofs.Found.{read_has}
 use Rattle.sched_base.specs.declared.Spot.TheVariants as spots
 

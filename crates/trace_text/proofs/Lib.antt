@@ -22,4 +22,5 @@ pub mod Fitting
 pub mod Found
 pub mod FittingPlaces
 pub mod FittingAnswers
+pub mod FittingRefusals
 pub mod FittingReplies
