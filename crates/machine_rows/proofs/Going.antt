@@ -1,5 +1,5 @@
 -- A machine that takes the steps of a row.
-use Rattle.std.proofs.Common.{◌≡◌, ◌⊎◌, ◌↔◌, ℕ, ◌+◌, ◌<◌, ◌≤◌, ◌∷◌, Bool, List, None, Option, Some, add-one, arith, ap, drop, drop-cons, drop_of_length-le, false, get_or, inl, inr, length, refl, sym, subst, true, ◌∙◌}
+use Rattle.std.proofs.Common.{◌≡◌, ◌↔◌, ℕ, ◌+◌, ◌<◌, ◌≤◌, ◌∷◌, Bool, List, None, Option, Some, add-one, arith, ap, drop, drop-cons, drop_of_length-le, false, get_or, inl, inr, length, refl, sym, subst, true, ◌∙◌}
 use Rattle.std.proofs.lemmas.Bool.{false≢true}
 use Rattle.std.specs.Prelude.{IsTrue}
 use Rattle.sched_base.specs.declared.Step.{Step}

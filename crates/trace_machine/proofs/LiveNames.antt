@@ -9,7 +9,7 @@ use Rattle.std.proofs.lemmas.List.Sums.{get_or-le-sum_by, sum_by-append, sum_by-
 use Rattle.std.proofs.lemmas.Map.Made.{length-le_from_is_member}
 use Rattle.sched_base.specs.declared.Facts.{Facts}
 use Rattle.flat_policy.specs.Laws.Counts.{EachNameOnce}
-use Rattle.flat_policy.specs.Policy.Machine.{MachineState, Sleeper, Yard, count_held, count_in_yard, hand_at, holds, no_hand, place_count}
+use Rattle.flat_policy.specs.Policy.Machine.{MachineState, Sleeper, Yard, count_held, count_in_yard, hand_at, holds, live_count, no_hand, place_count}
 use Rattle.trace_machine.proofs.Found.{counted_from_any, none_from_uncounted}
 use Rattle.trace_machine.proofs.Standing.{counted_once}
 
@@ -83,6 +83,10 @@ away_within g once =
     (λ q. omega (arith, count_away q y, counted_once g q once))
     (λ q some. made_where_counted g q once (omega (arith, some, count_away q y))) in
     omega (arith, few, length-append (map name_of y.blocked) y.ended, length-map y.blocked name_of)
+
+-- no more names are blocked than live
+pub blocked_within : (g : MachineState) → EachNameOnce g → length g.yard.blocked ≤ live_count g.yard
+blocked_within g once = let few = away_within g once in omega (arith, few)
 
 -- what a hand and the yard count is within what all places count
 pub hand_and_yard : (g : MachineState) (a name : ℕ) → count_held name (hand_at g a) + count_in_yard name g.yard ≤ place_count g name

@@ -1,8 +1,9 @@
 -- What holds after every list of steps that a setup fits.
-use Rattle.std.specs.Prelude.{Contains, IsTrue, List}
+use Rattle.std.specs.Prelude.{Contains, IsTrue, List, length, ◌≤◌}
+use Rattle.sched_base.specs.declared.Entry.{Entry}
 use Rattle.sched_base.specs.declared.Step.{Step}
 use Rattle.flat_policy.specs.Laws.Counts.{EachNameOnce}
-use Rattle.flat_policy.specs.Policy.Machine.{GRun, empty_machine, fits_step, replies, states_after}
+use Rattle.flat_policy.specs.Policy.Machine.{GRun, MachineState, empty_machine, fits_step, live_count, replies, states_after}
 use Rattle.flat_policy.specs.Policy.Setup.{SetupParts}
 
 -- a setup fits each step of a list
@@ -17,3 +18,7 @@ RepliesAreHistories =
 -- after them each name that was made stands in exactly one place, and no other in any
 abbrev pub StepsLeaveEachNameOnce : Type 0
 StepsLeaveEachNameOnce = (setup : SetupParts) (steps : List Step) → FitsEach setup steps → EachNameOnce (states_after setup (empty_machine setup) steps)
+
+-- after every history no more threads are blocked than live
+abbrev pub BlockedAreLive : Type 0
+BlockedAreLive = (setup : SetupParts) (history : List Entry) (end : MachineState) → GRun setup history end → length end.yard.blocked ≤ live_count end.yard

@@ -1,6 +1,6 @@
 //! Laws of lists of steps. Each is the contract of a function that does nothing.
 
-ghost use Rattle.trace_machine.specs.Laws.{RepliesAreHistories, StepsLeaveEachNameOnce};
+ghost use Rattle.trace_machine.specs.Laws.{BlockedAreLive, RepliesAreHistories, StepsLeaveEachNameOnce};
 
 use flat_policy::laws::{empty_is_sound, runs_keep_counts, steps_keep_sound};
 
@@ -19,5 +19,13 @@ pub fn steps_leave_each_name_once()
     ensures { StepsLeaveEachNameOnce }
 {
     replies_are_histories();
+    runs_keep_counts();
+}
+
+/// After every history of the machine no more threads are blocked than live, so that their number is
+/// in range where that of the live threads is.
+pub fn blocked_are_live()
+    ensures { BlockedAreLive }
+{
     runs_keep_counts();
 }

@@ -48,7 +48,7 @@ All-cons : {A : Type 0} (P : A → Type 0) (x : A) (xs : List A) → P x → All
 All-cons P x xs first others zero d lt = first
 All-cons P x xs first others (suc k) d lt = others k d (omega arith)
 
-step_fits : (setup : SetupParts) (s : Step) → IsSetup setup → IsTrue (fits_step setup s) → StepFits s
+pub step_fits : (setup : SetupParts) (s : Step) → IsSetup setup → IsTrue (fits_step setup s) → StepFits s
 step_fits setup s is e =
     let p = and_parts (nat_lt s.moment moment_limit) (nat_lt s.actor (actor_count setup) && (fits_act setup s.act && numbers_fit s.act)) e in
     let q = and_parts (nat_lt s.actor (actor_count setup)) (fits_act setup s.act && numbers_fit s.act) p.1 in

@@ -19,3 +19,8 @@ pub mod Texts
 pub mod WholeLines
 pub mod NoWord
 pub mod Fitting
+pub mod Found
+pub mod FittingPlaces
+pub mod FittingAnswers
+pub mod FittingRefusals
+pub mod FittingReplies

@@ -1,11 +1,13 @@
 -- What is written is read again, and what is read is what is written.
-use Rattle.std.specs.Prelude.{All, IsTrue, List, None, Ok, Option, Some, codes, ℕ, ◌++◌, ◌≡◌, ◌↔◌}
+use Rattle.std.specs.Prelude.{All, IsTrue, List, None, Ok, Option, Some, codes, length, ℕ, ◌++◌, ◌≡◌, ◌≤◌, ◌↔◌}
 use Rattle.sched_base.specs.declared.Answer.{Answer}
 use Rattle.sched_base.specs.declared.Entry.{Entry}
 use Rattle.sched_base.specs.declared.Step.{Step}
 use Rattle.flat_policy.specs.declared.texts.Given.{Given}
+use Rattle.flat_policy.specs.Laws.Counts.{StaysWithin}
+use Rattle.flat_policy.specs.Laws.Sound.{Sound}
 use Rattle.flat_policy.specs.Policy.BuiltSetups.{IsSetup}
-use Rattle.flat_policy.specs.Policy.Machine.{MachineState, RunsFrom, fits_step}
+use Rattle.flat_policy.specs.Policy.Machine.{MachineState, RunsFrom, fits_step, live_count, reply}
 use Rattle.flat_policy.specs.Policy.Setup.{SetupParts}
 use Rattle.flat_policy.specs.Texts.Answers.{answer_text}
 use Rattle.flat_policy.specs.Texts.Lines.{RunSays, answered_text, newline, program_text, read_run_line, read_step_line}
@@ -51,3 +53,9 @@ ProgramLinesAreExact =
 pub record FittingStepsHaveTexts : Type 0 where
   pub step : (setup : SetupParts) (s : Step) → IsSetup setup → IsTrue (fits_step setup s) → StepFits s
   pub history : (setup : SetupParts) (g end : MachineState) (es : List Entry) → IsSetup setup → RunsFrom setup g es end → All (λ (e : Entry). StepFits e.step) es
+
+-- the reply to a step that the setup fits, in a state of a history, has a text
+abbrev pub RepliesHaveTexts : Type 0
+RepliesHaveTexts =
+    (setup : SetupParts) (g : MachineState) (s : Step) → IsSetup setup → Sound setup g → StaysWithin setup g → length g.yard.blocked ≤ live_count g.yard
+    → IsTrue (fits_step setup s) → StepFits (reply setup g s).step × AnswerFits (reply setup g s).answer

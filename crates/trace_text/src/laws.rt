@@ -5,9 +5,12 @@ ghost use Rattle.trace_text.specs.Laws.{
   FittingStepsHaveTexts,
   LinesAreExact,
   ProgramLinesAreExact,
+  RepliesHaveTexts,
   RunLinesAreExact,
   StepsReadAgain,
 };
+
+use flat_policy::laws::{aim_may_be_entered, fitting_prefers_among};
 
 /// The text of each step whose numbers are in the ranges of lines is read as that step, without an
 /// answer.
@@ -42,3 +45,13 @@ pub fn program_lines_are_exact()
 pub fn fitting_steps_have_texts()
     ensures { FittingStepsHaveTexts }
 {}
+
+/// The reply to a step that a built setup fits has a text, its step and its answer, in every state that
+/// a history of the machine can reach: one that is sound, where no more threads live than may and no
+/// more are blocked than live.
+pub fn replies_have_texts()
+    ensures { RepliesHaveTexts }
+{
+    aim_may_be_entered();
+    fitting_prefers_among();
+}

@@ -103,7 +103,7 @@ pub fn behind_word<'a>(text: &'a [u8], word: &[u8]) -> Option<Pieces<'a>>
 }
 
 /// The number that the next piece writes, and the pieces behind it; `None` where that piece is no
-/// numeral, and where it is one of more than 18 digits.
+/// numeral, and where it is one of more than 19 digits.
 #[inline(always)]
 #[tactic(auto, using(crate::proofs::Scanning::number_next))]
 pub fn next_number(pieces: Pieces<'_>) -> Option<(u64, Pieces<'_>)>
