@@ -19,3 +19,4 @@ pub mod Texts
 pub mod WholeLines
 pub mod NoWord
 pub mod Fitting
+pub mod OneLine

@@ -1,5 +1,6 @@
 //! Laws of the texts of lines.
 
+ghost use Rattle.trace_text.specs.InLines.{AnswersStandInLines};
 ghost use Rattle.trace_text.specs.Laws.{
   AnswersReadAgain,
   FittingStepsHaveTexts,
@@ -41,4 +42,9 @@ pub fn program_lines_are_exact()
 /// A step that a built setup fits has a text, and so has each step of a history of the machine.
 pub fn fitting_steps_have_texts()
     ensures { FittingStepsHaveTexts }
+{}
+
+/// The text of each such step with an answer is the first line of whatever bytes go on with it.
+pub fn answers_stand_in_lines()
+    ensures { AnswersStandInLines }
 {}
