@@ -1,5 +1,5 @@
 -- Texts without a newline, and the lines that they stand in.
-use Rattle.std.proofs.Common.{[], ap, append_assoc, arith, codes, decimal, List, refl, subst, sym, ℕ, ◌++◌, ◌<◌, ◌==◌, ◌^◌, ◌≡◌, ◌≤◌, ◌∙◌, ◌∷◌, Bool, IfSome, None, Option, Some, false, ne_eqb, not, true}
+use Rattle.std.proofs.Common.{[], ap, append_assoc, arith, codes, decimal, List, refl, ℕ, ◌++◌, ◌<◌, ◌==◌, ◌^◌, ◌≡◌, ◌≤◌, ◌∙◌, ◌∷◌, Bool, IfSome, None, Option, Some, false, ne_eqb, not, true}
 use Rattle.std.proofs.lemmas.Bool.{and_from, and_parts, not-true}
 use Rattle.std.proofs.lemmas.Fmt.{decimal_is_IsNumeral}
 use Rattle.std.proofs.lemmas.List.Folds.{list_all-append}
@@ -12,10 +12,10 @@ use Rattle.sched_base.specs.declared.Bucket.{Bucket}
 use Rattle.sched_base.specs.declared.Bucket.TheVariants.{Bg, Df, Fg, Ini, Ui, Ut}
 use Rattle.sched_base.specs.declared.Place.{Place}
 use Rattle.sched_base.specs.declared.Step.{Step}
-use Rattle.flat_policy.specs.Texts.Answers.{answer_pieces, answer_text, place_pieces}
+use Rattle.flat_policy.specs.Texts.Answers.{answer_pieces, place_pieces}
 use Rattle.flat_policy.specs.Texts.Lines.{answered_text, newline}
 use Rattle.flat_policy.specs.Texts.Pieces.{bound_piece, bucket_piece, end_piece, spaced}
-use Rattle.flat_policy.specs.Texts.Steps.{act_pieces, step_pieces, step_text}
+use Rattle.flat_policy.specs.Texts.Steps.{act_pieces, step_pieces}
 use Rattle.flat_policy.specs.Texts.Streams.{text_lines}
 use Rattle.trace_text.proofs.WholeLines.{answered_pieces, answered_spaced}
 use Rattle.trace_text.specs.InLines.{AnswersStandInLines, line_before}
