@@ -1,0 +1,3 @@
+pub mod LinesAgain
+pub mod ReplayedAgain
+pub mod Settled
