@@ -14,3 +14,5 @@ pub mod Rows
 pub mod SetupsInLines
 pub mod Written
 pub mod Called
+pub mod Built
+pub mod InRange

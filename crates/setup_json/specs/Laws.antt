@@ -22,3 +22,7 @@ SetupsStandInLines =
 -- as a first line it is within the limit, and is read as that setup
 abbrev pub SetupLinesReadAgain : Type 0
 SetupLinesReadAgain = (s : SetupParts) → IsSetup s → read_setup_line (setup_text s) ≡ Ok s
+
+-- what a setup line is read as has all its parts in their ranges
+abbrev pub ReadSetupsAreBuilt : Type 0
+ReadSetupsAreBuilt = (line : List ℕ) (s : SetupParts) → read_setup_text line ≡ Ok s → IsSetup s

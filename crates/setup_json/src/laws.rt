@@ -1,6 +1,6 @@
 //! Laws of the texts of setups.
 
-ghost use Rattle.setup_json.specs.Laws.{SetupLinesReadAgain, SetupsReadAgain, SetupsStandInLines};
+ghost use Rattle.setup_json.specs.Laws.{ReadSetupsAreBuilt, SetupLinesReadAgain, SetupsReadAgain, SetupsStandInLines};
 
 /// The canonical text of each setup is read as that setup.
 pub fn setups_read_again()
@@ -17,4 +17,9 @@ pub fn setups_stand_in_lines()
 /// as that setup.
 pub fn setup_lines_read_again()
     ensures { SetupLinesReadAgain }
+{}
+
+/// Each setup that a line is read as is a built one: all its parts are in their ranges.
+pub fn read_setups_are_built()
+    ensures { ReadSetupsAreBuilt }
 {}

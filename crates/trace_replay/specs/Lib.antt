@@ -1,3 +1,4 @@
+pub mod Laws
 pub mod LoadAnswers
 pub mod Replaying
 pub mod SoFar

@@ -3,6 +3,7 @@
 //! Moments and times are whole microseconds.
 #![tactic(auto)]
 
+pub mod laws;
 mod status;
 mod trace;
 

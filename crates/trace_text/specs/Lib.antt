@@ -1,3 +1,4 @@
+pub mod InLines
 pub mod Laws
 pub mod Naming
 pub mod Pages

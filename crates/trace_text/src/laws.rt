@@ -1,5 +1,6 @@
 //! Laws of the texts of lines.
 
+ghost use Rattle.trace_text.specs.InLines.{AnswersStandInLines};
 ghost use Rattle.trace_text.specs.Laws.{
   AnswersReadAgain,
   FittingStepsHaveTexts,
@@ -55,3 +56,7 @@ pub fn replies_have_texts()
     aim_may_be_entered();
     fitting_prefers_among();
 }
+/// The text of each such step with an answer is the first line of whatever bytes go on with it.
+pub fn answers_stand_in_lines()
+    ensures { AnswersStandInLines }
+{}
