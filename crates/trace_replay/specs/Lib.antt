@@ -1,3 +1,4 @@
+pub mod Firsts
 pub mod Laws
 pub mod LoadAnswers
 pub mod Replaying

@@ -1,6 +1,6 @@
 -- What a replay answers and writes, by the bytes that it took.
 use Rattle.std.specs.Io.{StartsWith}
-use Rattle.std.specs.Io.KnownBytes.{IsAtEnd}
+use Rattle.std.specs.Io.KnownBytes.{Appends, IsAtEnd}
 use Rattle.std.specs.Prelude.{List, Option, if◌then◌else◌, length, nat_le, take, ℕ, ⊤, ◌++◌, ◌+◌, ◌-◌, ◌<◌, ◌≡◌, ◌≢◌, ◌≤◌, ◌⊎◌}
 use Rattle.sched_base.specs.Limits.{input_bytes, piece_bytes}
 use Rattle.flat_policy.specs.Texts.Streams.{Out, Status, StatusOf, Stop, bad_line, bad_setup, differs, done, end_met, fault_met, over_met, read_fault, too_long}
@@ -83,3 +83,8 @@ IsUncut statuses.ReadFault = ⊥
 IsUncut statuses.WriteFault = ⊥
 IsUncut statuses.OutOfMemory = ⊥
 IsUncut _ = ⊤
+
+-- the status is that of a whole input, and its output was written, unless a device failed or memory ran out
+abbrev pub IsOfWhole : List ℕ → Option (List ℕ) → Option (List ℕ) → ReplayStatus → Type 0
+IsOfWhole bytes old new status =
+    IsUncut status → (status ≡ status_in (StatusOf (counting bytes) (stop_of bytes))) × Appends old new (Out (counting bytes) (stop_of bytes))

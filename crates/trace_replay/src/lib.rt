@@ -4,6 +4,8 @@
 #![tactic(auto)]
 
 pub mod laws;
+mod lines;
+mod replay;
 mod status;
 mod trace;
 

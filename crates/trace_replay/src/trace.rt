@@ -45,6 +45,7 @@ impl<C: Cluster> Model for Trace<C> {
 }
 
 /// Whether two answers are the same.
+#[tactic(auto, using(crate::proofs::SameAnswers::same_by_test))]
 fn is_same(a: &Answer, b: &Answer) -> bool
     ensures { result ≡ same_answer a.now b.now }
 {

@@ -56,6 +56,7 @@ pub fn replies_have_texts()
     aim_may_be_entered();
     fitting_prefers_among();
 }
+
 /// The text of each such step with an answer is the first line of whatever bytes go on with it.
 pub fn answers_stand_in_lines()
     ensures { AnswersStandInLines }
