@@ -1,0 +1,3 @@
+pub mod OptionReads
+pub mod ReplayCommand
+pub mod AskedLemmas

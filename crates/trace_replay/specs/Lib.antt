@@ -1,2 +1,3 @@
 pub mod LoadAnswers
 pub mod Statuses
+pub mod Words

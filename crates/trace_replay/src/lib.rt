@@ -4,5 +4,6 @@
 #![tactic(auto)]
 
 mod status;
+mod words;
 
 pub use status::ReplayStatus;
