@@ -90,3 +90,63 @@ fn chosen(seed: Option<u32>, steps: Option<u32>) -> Result<Asked, ReplayStatus>
         _ => Err(ReplayStatus::Usage),
     }
 }
+
+#[cfg(test)]
+mod tests {
+    use super::{Asked, asked_for};
+    use crate::status::ReplayStatus;
+    use std::alloc::{AllocError, Global};
+    use std::test::Fail;
+
+    /// What the words of a line ask for.
+    fn answer(alloc: Global, line: &str) -> Result<Result<Asked, ReplayStatus>, AllocError> {
+        let mut words = Vec::new(alloc);
+        for word in line.split_whitespace() {
+            words.push(String::from_str(alloc, word)?)?;
+        }
+        Ok(asked_for(alloc, words.as_slice()))
+    }
+
+    #[test]
+    fn replays_at_no_words(rt: HostRuntime) -> Result<(), Fail> {
+        assert!(rt; answer(rt.alloc(), "")? == Ok(Asked::Replay));
+        Ok(())
+    }
+
+    #[test]
+    fn loads_at_two_numbers(rt: HostRuntime) -> Result<(), Fail> {
+        let alloc = rt.alloc();
+        let small = Asked::Load {
+            seed: 7,
+            steps: 200,
+        };
+        assert!(rt; answer(alloc, "--load 7 --steps 200")? == Ok(small));
+        let wide = Asked::Load {
+            seed: 4_294_967_295,
+            steps: 1,
+        };
+        assert!(rt; answer(alloc, "--steps=1 --load=4294967295")? == Ok(wide));
+        Ok(())
+    }
+
+    #[test]
+    fn refuses_other_words(rt: HostRuntime) -> Result<(), Fail> {
+        let alloc = rt.alloc();
+        for line in [
+            "x",
+            "--load 7",
+            "--steps 7",
+            "--load 4294967296 --steps 1",
+            "--load 7 --steps 0",
+            "--load 7 --steps 200001",
+            "--help",
+            "--load 7 --load 8 --steps 1",
+            "--steps 1 --load",
+            "-- x",
+        ] {
+            let found = answer(alloc, line)?;
+            assert!(rt; found == Err(ReplayStatus::Usage), "at {line}");
+        }
+        Ok(())
+    }
+}
