@@ -1,7 +1,10 @@
+pub mod AskedLemmas
 pub mod Beginning
 pub mod Ending
 pub mod Going
 pub mod LinesAgain
+pub mod OptionReads
+pub mod ReplayCommand
 pub mod ReplayedAgain
 pub mod SameAnswers
 pub mod Settled

@@ -6,3 +6,4 @@ pub mod SoFar
 pub mod Statuses
 pub mod Traces
 pub mod UnderWay
+pub mod Words

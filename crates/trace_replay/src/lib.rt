@@ -8,5 +8,6 @@ mod lines;
 mod replay;
 mod status;
 mod trace;
+mod words;
 
 pub use status::ReplayStatus;
