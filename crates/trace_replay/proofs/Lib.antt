@@ -9,3 +9,6 @@ pub mod ReplayedAgain
 pub mod SameAnswers
 pub mod Settled
 pub mod TextLines
+pub mod Turns
+pub mod Putting
+pub mod Taking
