@@ -1,2 +1,3 @@
 pub mod LoadAnswers
+pub mod LoadsSoFar
 pub mod Statuses

@@ -3,6 +3,7 @@
 //! Moments and times are whole microseconds.
 #![tactic(auto)]
 
+mod load;
 mod status;
 
 pub use status::ReplayStatus;
