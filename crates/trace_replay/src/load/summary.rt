@@ -30,7 +30,8 @@ fn push_line(text: &mut Vec<u8>, words: &[u8], n: u64) -> Result<(), AllocError>
     ensures { OnOk result (text.new.items ≡ text.old.items ++ summary_line words.now n) }
 {
     push_words(text, words, n)?;
-    text.push(b'\n')
+    text.push(b'\n')?;
+    Ok(())
 }
 
 /// A line of words, and a number of another.
@@ -39,7 +40,8 @@ fn push_share(text: &mut Vec<u8>, words: &[u8], n: u64, of: u64) -> Result<(), A
 {
     push_words(text, words, n)?;
     push_words(text, b" of ", of)?;
-    text.push(b'\n')
+    text.push(b'\n')?;
+    Ok(())
 }
 
 /// The first line: the seed, and how many steps.
@@ -48,7 +50,8 @@ fn push_head(text: &mut Vec<u8>, seed: u32, steps: u32) -> Result<(), AllocError
 {
     push_words(text, b"load ", seed as u64)?;
     push_words(text, b" steps ", steps as u64)?;
-    text.push(b'\n')
+    text.push(b'\n')?;
+    Ok(())
 }
 
 /// The lines of makes, enters, selects and offers.
