@@ -1,0 +1,3 @@
+pub mod LoadCounts
+pub mod LoadLines
+pub mod LoadSteps

@@ -1,6 +1,7 @@
 -- The load in code, as the policy's, and the parts of its summary.
-use Rattle.std.specs.Prelude.{List, codes, decimal, ℕ, ◌++◌, ◌+◌, ◌≡◌, ◌≤◌}
-use Rattle.flat_policy.specs.Policy.Machine.{MachineState}
+use Rattle.std.specs.Prelude.{IsTrue, List, codes, decimal, ℕ, ◌++◌, ◌+◌, ◌≡◌, ◌≤◌}
+use Rattle.sched_base.specs.declared.Act.{Act}
+use Rattle.flat_policy.specs.Policy.Machine.{MachineState, fits_act, numbers_fit}
 use Rattle.flat_policy.specs.Runs.LoadTrace.{LoadState, Tally, load_after, load_setup, load_step, share_line, summary_line}
 use Rattle.flat_policy.specs.Texts.Lines.{newline}
 use Rattle.trace_machine.specs.Machines.{MachineView, Means}
@@ -31,14 +32,18 @@ count_total y = y.makes + y.enters + y.selects + y.selected + y.offers + y.offer
 abbrev pub load_in : LoadSoFar → MachineState → LoadState
 load_in l g = record { draw = l.draw; state = g; kept = l.kept; tally = tally_in l.counts }
 
+-- the load's setup fits an act, and so do its numbers
+abbrev pub FitsLoad : Act → Type 0
+FitsLoad act = IsTrue (fits_act load_setup act) × IsTrue (numbers_fit act)
+
 -- the step of a number was taken: from every state that the machine meant, the load after it is the policy's, and the machine means its state
 abbrev pub TakesStep : ℕ → MachineView → MachineView → LoadSoFar → LoadSoFar → Type 0
 TakesStep i old new before after =
     (g : MachineState) → Means old g
     → Means new (load_step (load_in before g) i).state
-        × (load_in after (load_step (load_in before g) i).state ≡ load_step (load_in before g) i)
-        × (new.parts.setup ≡ old.parts.setup)
-        × (new.steps ≡ old.steps + 1)
+    × (load_in after (load_step (load_in before g) i).state ≡ load_step (load_in before g) i)
+    × (new.parts.setup ≡ old.parts.setup)
+    × (new.steps ≡ old.steps + 1)
 
 -- the first so many steps of the load of a seed were taken
 pub record HasRun (seed n : ℕ) (v : MachineView) (l : LoadSoFar) : Type 0 where

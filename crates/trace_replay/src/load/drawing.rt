@@ -2,6 +2,7 @@
 
 ghost use Rattle.std.specs.Prelude.{◌≡◌, ◌<◌};
 ghost use Rattle.flat_policy.specs.Runs.LoadTrace.{bucket_at_index, busy_act, drawn, free_act, free_wake, kept_after, load_make, next_draw};
+ghost use Rattle.trace_replay.specs.LoadsSoFar.{FitsLoad};
 
 use sched_base::{Act, Bucket, Facts};
 
@@ -37,7 +38,8 @@ fn bucket_at_index(i: u64) -> Bucket
 
 /// A make of a name, by what is left of the draw.
 fn load_make(name: u32, q: u64) -> Act
-    ensures { result ≡ load_make name q }
+    ensures is { result ≡ load_make name q }
+    ensures fits { FitsLoad result }
 {
     Act::Make {
         name,
@@ -50,7 +52,8 @@ fn load_make(name: u32, q: u64) -> Act
 
 /// Waking the name that sleeps.
 fn free_wake(kept: Option<u32>) -> Act
-    ensures { result ≡ free_wake kept }
+    ensures is { result ≡ free_wake kept }
+    ensures fits { FitsLoad result }
 {
     match kept {
         Some(name) => Act::Wake { name },
@@ -61,7 +64,9 @@ fn free_wake(kept: Option<u32>) -> Act
 /// The act of an actor with an empty hand, by what is left of the draw: how many threads live, the
 /// cluster that isn't the actor's home, and the name that sleeps.
 pub(crate) fn free_act(name: u32, q: u64, live: u32, other: u8, kept: Option<u32>) -> Act
-    ensures { result ≡ free_act name q live other kept }
+    requires { other < 2 }
+    ensures is { result ≡ free_act name q live other kept }
+    ensures fits { FitsLoad result }
 {
     let k = q % 8;
     if live == 0 || (k < 2 && live < 256) {
@@ -79,7 +84,9 @@ pub(crate) fn free_act(name: u32, q: u64, live: u32, other: u8, kept: Option<u32
 
 /// The act of an actor that holds a thread, by what is left of the draw and the name that sleeps.
 pub(crate) fn busy_act(q: u64, thread: &Facts, kept: Option<u32>) -> Act
-    ensures { result ≡ busy_act q thread.now kept }
+    requires { thread.now.prefer < 2 }
+    ensures is { result ≡ busy_act q thread.now kept }
+    ensures fits { FitsLoad result }
 {
     let k = q % 8;
     if k < 2 {

@@ -4,7 +4,7 @@ ghost use Rattle.std.specs.Prelude.{◌≡◌, ◌<◌, ◌≤◌, ◌+◌, IfOk
 ghost use Rattle.flat_policy.specs.Policy.Machine.{MachineState, empty_machine, fits_step, hand_at};
 ghost use Rattle.flat_policy.specs.Runs.LoadTrace.{load_act, load_after, load_setup, step_by_draw};
 ghost use Rattle.trace_machine.specs.Machines.{IsMachine, Means};
-ghost use Rattle.trace_replay.specs.LoadsSoFar.{HasRun, TakesStep, count_total, load_in, tally_in};
+ghost use Rattle.trace_replay.specs.LoadsSoFar.{FitsLoad, HasRun, TakesStep, count_total, load_in, tally_in};
 
 use super::counts::Counts;
 use super::drawing::{busy_act, drawn, free_act, kept_after, next_draw};
@@ -23,18 +23,15 @@ pub(crate) struct LoadSoFar {
 }
 
 /// The act of an actor, by what is left of the draw.
-fn act<C: Cluster>(
-    machine: &Machine<C>,
-    so_far: &LoadSoFar,
-    i: u32,
-    actor: u8,
-    q: u64,
-) -> Act
+fn act<C: Cluster>(machine: &Machine<C>, so_far: &LoadSoFar, i: u32, actor: u8, q: u64) -> Act
     requires machine { IsMachine machine.now }
     requires setup { machine.now.parts.setup ≡ load_setup }
     requires actor { actor < 6 }
-    ensures { (g : MachineState) → Means machine.now g → result ≡ load_act (load_in so_far.now g) i actor q (hand_at g actor).thread }
+    ensures is { (g : MachineState) → Means machine.now g → result ≡ load_act (load_in so_far.now g) i actor q (hand_at g actor).thread }
+    ensures fits { FitsLoad result }
 {
+    fitting_prefers_among();
+    runs_stay_sound();
     match machine.hand(actor) {
         None => {
             let other = 1 - machine.setup().home(actor);
@@ -52,8 +49,6 @@ fn step_by_draw<C: Cluster>(machine: &Machine<C>, so_far: &LoadSoFar, i: u32, r:
     ensures is { (g : MachineState) → Means machine.now g → result ≡ step_by_draw (load_in so_far.now g) i r }
     ensures fits { IsTrue (fits_step load_setup result) }
 {
-    fitting_prefers_among();
-    runs_stay_sound();
     let actor = (r % 6) as u8;
     Step {
         moment: i as u64 * 50,

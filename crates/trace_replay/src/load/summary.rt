@@ -60,7 +60,12 @@ fn push_first(text: &mut Vec<u8>, counts: &Counts) -> Result<(), AllocError>
 {
     push_line(text, b"make ", counts.makes as u64)?;
     push_line(text, b"enter ", counts.enters as u64)?;
-    push_share(text, b"select ", counts.selected as u64, counts.selects as u64)?;
+    push_share(
+        text,
+        b"select ",
+        counts.selected as u64,
+        counts.selects as u64,
+    )?;
     push_share(text, b"offer ", counts.offered as u64, counts.offers as u64)
 }
 
