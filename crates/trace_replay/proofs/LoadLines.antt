@@ -2,7 +2,7 @@
 use Rattle.std.proofs.Common.{◌≡◌, ℕ, List, ◌++◌, append_assoc, ap, sym, ◌∙◌}
 use Rattle.flat_policy.specs.Runs.LoadTrace.{Load, LoadState, Tally, load_after, queued_count, share_line, summary, summary_line}
 use Rattle.std.specs.Prelude.{codes}
-use Rattle.trace_replay.specs.LoadsSoFar.{first_lines, head_line, last_lines, load_in, summary_of, tally_in}
+use Rattle.trace_replay.specs.LoadsSoFar.{first_lines, head_line, load_in, summary_of, tally_in}
 use Rattle.trace_replay.specs.declared.load.stepping.LoadSoFar.{LoadSoFar}
 
 -- lists behind a list, one after the other or put together first

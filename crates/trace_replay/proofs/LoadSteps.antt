@@ -1,13 +1,12 @@
 -- The steps of a load in code are the policy's.
-use Rattle.std.proofs.Common.{◌≡◌, ℕ, zero, suc, ◌+◌, ◌*◌, ◌%◌, ◌<◌, ◌≤◌, ◌^◌, Option, Some, None, IsTrue, refl, sym, ap, ◌∙◌, subst, arith, add-one, nat_lt, ◌&&◌, true}
+use Rattle.std.proofs.Common.{◌≡◌, ℕ, ◌+◌, ◌*◌, ◌%◌, ◌<◌, ◌≤◌, Option, Some, None, IsTrue, refl, sym, ap, ◌∙◌, subst, arith, add-one, nat_lt, ◌&&◌}
 use Rattle.std.proofs.lemmas.Bool.{and_from, lt-ltb}
 use Rattle.sched_base.specs.Limits.{moment_limit}
 use Rattle.sched_base.specs.declared.Act.{Act}
-use Rattle.sched_base.specs.declared.Answer.{Answer}
 use Rattle.sched_base.specs.declared.Facts.{Facts}
 use Rattle.sched_base.specs.declared.Step.{Step}
 use Rattle.flat_policy.specs.Laws.Counts.{RunsStaySound}
-use Rattle.flat_policy.specs.Laws.Sound.{FittingPrefersAmong, Sound}
+use Rattle.flat_policy.specs.Laws.Sound.{FittingPrefersAmong}
 use Rattle.flat_policy.specs.Policy.Machine.{MachineState, empty_machine, fits_act, fits_step, hand_at, numbers_fit, reply, state_after}
 use Rattle.flat_policy.specs.Policy.Setup.{SetupParts, actor_count, cluster_count}
 use Rattle.flat_policy.specs.Runs.LoadTrace.{LoadState, Tally, drawn, kept_after, load_after, load_setup, load_step, load_taken, next_draw, no_tally, step_by_draw, step_of_load, tallied}
