@@ -91,3 +91,6 @@ fn load_setup(alloc: Global) -> Result<Setup, AllocError>
         Err(BuildError::Range(_)) => unreachable!(),
     }
 }
+
+#[cfg(test)]
+mod tests;
