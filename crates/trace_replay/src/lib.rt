@@ -6,6 +6,7 @@
 pub mod laws;
 mod lines;
 mod replay;
+mod load;
 mod status;
 mod trace;
 mod words;
