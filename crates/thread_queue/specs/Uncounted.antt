@@ -1,7 +1,7 @@
 -- What a call that takes no counter needs, and what it does.
 use Rattle.std.specs.Prelude.{Some, ℕ, ◌<◌, ◌≡◌}
 use Rattle.link_arena.specs.Arena.{Arena, IsLive, value_at}
-use Rattle.thread_queue.specs.Queue.{HasSlot, LacksSlot, Pushes, Queue, Removes, Settles, StandsIn, StaysInPlace}
+use Rattle.thread_queue.specs.Queue.{HasSlot, LacksSlot, Pushes, Queue, Removes, Settles, StaysInPlace}
 use Rattle.thread_queue.specs.declared.item.Item.{Item}
 use Rattle.thread_queue.specs.declared.uncounted.Change.{Change}
 use Rattle.thread_queue.specs.declared.uncounted.Change.TheVariants as changes
