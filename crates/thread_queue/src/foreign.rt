@@ -7,6 +7,9 @@ ghost use Rattle.pairing_heap.specs.Heap.{keys_at, Stands, Lacks, Holds, AddsPai
 ghost use Rattle.thread_queue.specs.Item.{foreign_key_of_item, foreign_precedes};
 ghost use Rattle.thread_queue.specs.declared.item.ForeignKey.{ForeignKey as Key};
 
+#[cfg(test)]
+mod tests;
+
 use crate::Item;
 use link_arena::Arena;
 use pairing_heap::{Heap, Steps};

@@ -16,11 +16,7 @@ use std::sync::ledger::{Blank, Ledger};
 enum Change {
     Push,
     Remove,
-    Settle {
-        usage: u32,
-        seen: u64,
-        pri: u8,
-    },
+    Settle { usage: u32, seen: u64, pri: u8 },
 }
 
 impl ThreadQueue {
