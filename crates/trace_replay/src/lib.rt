@@ -5,10 +5,12 @@
 
 pub mod laws;
 mod lines;
-mod replay;
 mod load;
+mod replay;
 mod status;
+mod top;
 mod trace;
 mod words;
 
 pub use status::ReplayStatus;
+pub use top::replay_main;
