@@ -1,5 +1,5 @@
 -- Output that is put while a replay goes on, and when it stops.
-use Rattle.std.proofs.Common.{◌≡◌, ◌≢◌, ◌∙◌, ℕ, ◌+◌, ◌<◌, ◌≤◌, List, [], ◌++◌, Option, None, Some, Result, Ok, Err, drop, length, length-append, take, arith, ap, append_assoc, append-nil, inr, refl, sym, subst}
+use Rattle.std.proofs.Common.{◌≡◌, ◌≢◌, ◌∙◌, ℕ, ◌+◌, ◌<◌, ◌≤◌, Bool, List, [], ◌++◌, Option, None, Some, Result, Ok, Err, drop, length, length-append, take, arith, ap, append_assoc, append-nil, inl, inr, refl, sym, subst}
 use Rattle.std.proofs.lemmas.List.{take-append-drop, take-take, take_at}
 use Rattle.std.specs.Io.KnownBytes.{Appends}
 use Rattle.std.specs.Prelude.{OnErr, OnOk}
@@ -8,6 +8,7 @@ use Rattle.ports.specs.Devices.{AppendsPart}
 use Rattle.ports.specs.Feeds.{Feed}
 use Rattle.trace_replay.specs.Replaying.{IsFront, IsReadLittle, Replays}
 use Rattle.trace_replay.specs.SoFar.{SoFar}
+use Rattle.trace_replay.specs.Statuses.{HasWriteCause, PutsOnce}
 use Rattle.trace_replay.specs.Traces.{CanAnswer, TraceView, setup_of}
 use Rattle.trace_replay.specs.UnderWay.{HasEnded, IsStopped, IsUnderWay}
 use Rattle.trace_replay.specs.declared.status.ReplayStatus.{ReplayStatus}
@@ -125,3 +126,32 @@ memory_cut start begun page left taken now stop part =
       written = appends_both begun taken now stop.put (take n page) stop.written part.2;
       replays = front_shorter _ (stop.put ++ take n page) (drop n page) (stop.put ++ page) stop.front (split_page stop.put page n);
     }
+
+-- ---- what is said of the devices
+
+-- a status that is answered where every put went
+pub put_went : (before now : ℕ) (failing : Bool) (status : ReplayStatus) → status ≢ statuses.WriteFault → now ≡ before → PutsOnce before now failing status
+put_went before now failing statuses.WriteFault other same = absurd (other refl)
+put_went before now failing statuses.OutOfMemory other same = inl same
+put_went before now failing statuses.Done other same = same
+put_went before now failing statuses.Usage other same = same
+put_went before now failing (statuses.BadSetup what) other same = same
+put_went before now failing (statuses.BadLine line what) other same = same
+put_went before now failing (statuses.Differs line) other same = same
+put_went before now failing statuses.TooLong other same = same
+put_went before now failing statuses.ReadFault other same = same
+
+pub no_write_cause : (before now : ℕ) (status : ReplayStatus) → status ≢ statuses.WriteFault → HasWriteCause before now status
+no_write_cause before now statuses.WriteFault other = absurd (other refl)
+no_write_cause before now statuses.OutOfMemory other = tt
+no_write_cause before now statuses.Done other = tt
+no_write_cause before now statuses.Usage other = tt
+no_write_cause before now (statuses.BadSetup what) other = tt
+no_write_cause before now (statuses.BadLine line what) other = tt
+no_write_cause before now (statuses.Differs line) other = tt
+no_write_cause before now statuses.TooLong other = tt
+no_write_cause before now statuses.ReadFault other = tt
+
+-- an empty page can't be cut
+pub nothing_to_cut : (a b : Option (List ℕ)) (page : List ℕ) → page ≡ [] → AppendsPart a b page → ⊥
+nothing_to_cut a b page empty part = absurd (omega (arith, part.1, ap (λ (bs : List ℕ). length bs) empty))

@@ -1,12 +1,15 @@
 -- A step that the machine of a replay took.
-use Rattle.std.proofs.Common.{◌≡◌, ◌∙◌, ◌++◌, ◌+◌, Bool, List, Option, false, true, ap, refl, sym, subst, ℕ}
+use Rattle.std.proofs.Common.{◌≡◌, ◌∙◌, ◌++◌, ◌+◌, Bool, List, Ok, Option, Result, arith, false, true, ap, refl, sym, subst, ℕ}
 use Rattle.std.specs.Prelude.{IsTrue}
 use Rattle.sched_base.specs.declared.Answer.{Answer}
 use Rattle.sched_base.specs.declared.Entry.{Entry}
 use Rattle.sched_base.specs.declared.Step.{Step}
 use Rattle.flat_policy.specs.Policy.Machine.{MachineState, fits_step, reply, state_after}
-use Rattle.flat_policy.specs.Texts.Lines.{answered_text, entry_text}
-use Rattle.flat_policy.specs.Texts.Streams.{contradicts}
+use Rattle.flat_policy.specs.Policy.Setup.{SetupParts}
+use Rattle.flat_policy.specs.Texts.Lines.{answered_text, entry_text, read_step_line}
+use Rattle.flat_policy.specs.Texts.Pieces.{and_then}
+use Rattle.flat_policy.specs.Texts.Streams.{contradicts, if_fits, step_line}
+use Rattle.flat_policy.specs.declared.texts.LineFault.{LineFault}
 use Rattle.flat_policy.specs.declared.texts.Given.{Given}
 use Rattle.trace_machine.specs.Machines.{IsMachine, MachineView, Means, StepsTo, reply_in}
 use Rattle.trace_machine.specs.declared.Reply.{Reply}
@@ -52,3 +55,10 @@ machine_goes_on old mid s told machine steps = (state_after old.parts.setup mach
 
 pub setup_stays : (old mid : MachineView) (s : Step) (told : Reply) → IsMachine old → StepsTo old mid s told → mid.parts.setup ≡ old.parts.setup
 setup_stays old mid s told machine steps = (steps machine.0 machine.1).2
+
+fits_of : (setup : SetupParts) (r : Result Given LineFault) (given : Given) → and_then r (if_fits setup) ≡ Ok given → IsTrue (fits_step setup given.step)
+fits_of setup r given is = grind arith
+
+-- a line that says a step, says one that the setup fits
+pub fitting_line : (setup : SetupParts) (line : List ℕ) (given : Given) → step_line setup line ≡ Ok given → IsTrue (fits_step setup given.step)
+fitting_line setup line given is = fits_of setup (read_step_line line) given is

@@ -1,25 +1,28 @@
 -- One turn of a replay: the next line of the feed, answered or stopped at.
-use Rattle.std.proofs.Common.{◌≡◌, ◌≢◌, ◌∙◌, ◌⊎◌, ℕ, suc, ◌+◌, ◌-◌, ◌<◌, ◌≤◌, List, [], ◌∷◌, ◌++◌, Option, None, Some, Err, Ok, length, length-append, take, add-one, arith, ap, append_assoc, append-nil, refl, sym, subst, inl, inr, false, true}
-use Rattle.std.proofs.lemmas.List.{take_all}
+use Rattle.std.proofs.Common.{◌≡◌, ◌≢◌, ◌∙◌, ◌⊎◌, ℕ, suc, ◌+◌, ◌-◌, ◌<◌, ◌≤◌, List, [], ◌∷◌, ◌++◌, Option, None, Some, Err, Ok, Result, length, min, length-append, take, add-one, arith, ap, append_assoc, append-nil, refl, sym, subst, inl, inr, false, true}
+use Rattle.std.proofs.lemmas.List.{length-take, take_all}
+use Rattle.std.specs.Io.{StartsWith}
 use Rattle.std.specs.Io.KnownBytes.{Consumes, IsAtEnd}
+use Rattle.std.specs.Prelude.{IfErr, OnOk}
 use Rattle.sched_base.specs.Limits.{input_bytes, piece_bytes}
 use Rattle.flat_policy.specs.Policy.Machine.{MachineState, reply, state_after}
 use Rattle.flat_policy.specs.Texts.Lines.{entry_text, line_limit}
 use Rattle.flat_policy.specs.Texts.Streams.{Status, Stop, bad_line, differs, done, end_met, fault_met, read_fault, status_at_stop, step_line, stopped, too_long}
 use Rattle.flat_policy.specs.declared.texts.LineFault.TheVariants as line_faults
 use Rattle.ports.specs.Feeds.{Feed}
-use Rattle.ports.specs.LineFeed.{GivesLine, IsFed, bytes_ahead, counted}
+use Rattle.ports.specs.LineFeed.{GivesLine, IsAtHand, IsFed, bytes_ahead, counted, decided_by, given_by, in_hand}
 use Rattle.ports.specs.Lines.{HasNoNewline, IsLong, IsOpen, IsOver}
+use Rattle.ports.specs.declared.line_feed.Fed.{Fed}
 use Rattle.ports.specs.declared.line_feed.Fed.TheVariants as fed
 use Rattle.trace_machine.specs.Machines.{Means}
 use Rattle.trace_replay.specs.Replaying.{ComesTo, HasFault, IsDecided, IsDecidedLate, IsFaulty, IsFront, IsReadLittle, IsWhole}
 use Rattle.trace_replay.specs.SoFar.{SoFar}
-use Rattle.trace_replay.specs.Traces.{Answers, StopsLine, TraceView, setup_of}
+use Rattle.trace_replay.specs.Traces.{Answers, CanAnswer, CanEnd, Stays, StopsLine, TraceView, setup_of}
 use Rattle.trace_replay.specs.UnderWay.{IsStopped, IsUnderWay}
 use Rattle.trace_replay.specs.declared.status.ReplayStatus.{ReplayStatus}
 use Rattle.trace_replay.specs.declared.status.ReplayStatus.TheVariants as statuses
 use Rattle.trace_replay.proofs.Ending.{decided_fault, differing_line, faulty_line, front_so_far, line_decides, line_decides_late, long_decides, long_decides_late, open_comes, over_comes, read_to}
-use Rattle.trace_replay.proofs.Going.{so_far_next, still_undecided, whole_line}
+use Rattle.trace_replay.proofs.Going.{plain_front, so_far_next, still_undecided, whole_line}
 
 -- bytes that are consumed one after the other
 pub consumes_both : (a b c : Option (List ℕ)) (x y : List ℕ) → Consumes a b x → Consumes b c y → Consumes a c (x ++ y)
@@ -314,3 +317,94 @@ stops_fault start begun t old new before left taken s open_still =
       front = front_in_all start begun t old new before left taken s;
       little = λ other. little_in_all start begun t old new before left taken s (omega (arith, here.short));
     }
+
+-- ---- by the answer of the feed
+
+-- what the feed's answer says, over a source that had this left before and has this now
+pub record Fetched (old new : Feed) (before left : Option (List ℕ)) (was now : ℕ) (answer : Fed) : Type 0 where
+  pub fed : IsFed line_limit left was now new answer
+  pub bytes : Consumes (bytes_ahead old before) (bytes_ahead new left) (given_by new answer)
+  pub keeps : StartsWith (in_hand new answer) old.held
+  pub passed : new.passed ≡ old.passed + length (given_by new answer)
+  pub ahead : new.passed + length new.held < decided_by line_limit new answer + piece_bytes
+  pub most : new.passed + length new.held ≤ input_bytes + 1
+
+pub fetched_as : (old new : Feed) (before left : Option (List ℕ)) (was now : ℕ) (a b : Fed) → a ≡ b → Fetched old new before left was now a → Fetched old new before left was now b
+fetched_as old new before left was now a b same fetched = subst (λ r. Fetched old new before left was now r) same fetched
+
+pub given_line : (start begun : Option (List ℕ)) (t : TraceView) (old new : Feed) (before left taken : Option (List ℕ)) (was now : ℕ) → Fetched old new before left was now fed.Line
+    → IsUnderWay start begun t old before taken → Given start begun t old new before left taken
+given_line start begun t old new before left taken was now fetched way = record {
+  way = way;
+  gives = fetched.fed;
+  consumed = fetched.bytes;
+  passed = fetched.passed;
+  few = omega (arith, fetched.ahead);
+}
+
+pub at_long : (start begun : Option (List ℕ)) (t : TraceView) (old new : Feed) (before left taken : Option (List ℕ)) (was now : ℕ) → Fetched old new before left was now fed.Long
+    → IsUnderWay start begun t old before taken → IsStopped start begun t.page left taken (statuses.BadLine t.line line_faults.Long)
+at_long start begun t old new before left taken was now fetched way =
+    stops_long start begun t old new before left taken (record { way = way; consumed = fetched.bytes; passed = fetched.passed }) fetched.fed.1 fetched.ahead
+
+pub at_unfinished : (start begun : Option (List ℕ)) (t : TraceView) (old new : Feed) (before left taken : Option (List ℕ)) (was now : ℕ) → Fetched old new before left was now fed.Unfinished
+    → IsUnderWay start begun t old before taken → IsStopped start begun t.page left taken (statuses.BadLine t.line line_faults.Unfinished)
+at_unfinished start begun t old new before left taken was now fetched way =
+    stops_unfinished start begun t old new before left taken (record { way = way; consumed = fetched.bytes; passed = fetched.passed }) fetched.fed.1 fetched.fed.2 fetched.fed.3
+
+pub at_end_met : (start begun : Option (List ℕ)) (t : TraceView) (old new : Feed) (before left taken : Option (List ℕ)) (was now : ℕ) → Fetched old new before left was now fed.End
+    → IsUnderWay start begun t old before taken → IsStopped start begun t.page left taken statuses.Done
+at_end_met start begun t old new before left taken was now fetched way =
+    stops_end start begun t old new before left taken (record { way = way; consumed = fetched.bytes; passed = fetched.passed }) fetched.fed.1 fetched.fed.2
+
+pub at_fault : (start begun : Option (List ℕ)) (t : TraceView) (old new : Feed) (before left taken : Option (List ℕ)) (was now : ℕ) → Fetched old new before left was now fed.Fault
+    → IsUnderWay start begun t old before taken → IsStopped start begun t.page left taken statuses.ReadFault
+at_fault start begun t old new before left taken was now fetched way =
+    stops_fault start begun t old new before left taken (record { way = way; consumed = fetched.bytes; passed = fetched.passed }) fetched.fed.1
+
+pub at_over : (start begun : Option (List ℕ)) (t : TraceView) (old new : Feed) (before left taken : Option (List ℕ)) (was now : ℕ) → Fetched old new before left was now fed.Over
+    → IsUnderWay start begun t old before taken → IsStopped start begun t.page left taken statuses.TooLong
+at_over start begun t old new before left taken was now fetched way =
+    stops_over start begun t old new before left taken (record { way = way; consumed = fetched.bytes; passed = fetched.passed }) fetched.fed.1 fetched.most
+
+-- a take fails only where the line was not at hand
+pub none_at_hand : (old new : Feed) (before left : Option (List ℕ)) (was now : ℕ) → Fetched old new before left was now fed.Fault → IsAtHand line_limit old → ⊥
+none_at_hand old new before left was now fetched hand =
+    let still : IsOpen line_limit (counted new) new.held = fetched.fed.1 in
+    let long : min (length old.held) (length new.held) ≡ length old.held =
+    sym (length-take (length old.held) new.held) ∙ ap (λ (bs : List ℕ). length bs) fetched.keeps in
+    hand (record {
+      short = omega (arith, still.short, long);
+      counts = omega (arith, still.counts, long, fetched.passed);
+      plain = subst HasNoNewline fetched.keeps (plain_front (length old.held) new.held still.plain);
+    })
+
+-- why a line is not answered is never a failed put, nor a failed take
+pub never_put : (t : TraceView) (line : List ℕ) (status : ReplayStatus) → StopsLine t line status → status ≢ statuses.WriteFault
+never_put t line statuses.WriteFault stops same = stops
+never_put t line (statuses.BadLine number what) stops same = absurd (cc)
+never_put t line (statuses.Differs number) stops same = absurd (cc)
+never_put t line statuses.OutOfMemory stops same = absurd (cc)
+never_put t line statuses.Done stops same = stops
+never_put t line statuses.Usage stops same = stops
+never_put t line (statuses.BadSetup what) stops same = stops
+never_put t line statuses.TooLong stops same = stops
+never_put t line statuses.ReadFault stops same = stops
+
+pub never_taken : (t : TraceView) (line : List ℕ) (status : ReplayStatus) → StopsLine t line status → status ≢ statuses.ReadFault
+never_taken t line statuses.ReadFault stops same = stops
+never_taken t line (statuses.BadLine number what) stops same = absurd (cc)
+never_taken t line (statuses.Differs number) stops same = absurd (cc)
+never_taken t line statuses.OutOfMemory stops same = absurd (cc)
+never_taken t line statuses.Done stops same = stops
+never_taken t line statuses.Usage stops same = stops
+never_taken t line (statuses.BadSetup what) stops same = stops
+never_taken t line statuses.TooLong stops same = stops
+never_taken t line statuses.WriteFault stops same = stops
+
+-- the machine may end after a line
+pub line_ends : (r : Result (Unit {0}) ReplayStatus) (t next : TraceView) (line : List ℕ) → CanAnswer t → OnOk r (Answers t next line)
+    → IfErr r (λ status. StopsLine t line status × Stays t next) → CanEnd next
+line_ends (Ok x) t next line can answers none =
+    record { machine = (_, (answers.2.goes can.machine.0 can.machine.1).2); steps = omega (arith, can.steps, answers.2.steps) }
+line_ends (Err status) t next line can none stops = stops.1.ends

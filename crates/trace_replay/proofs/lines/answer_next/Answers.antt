@@ -1,5 +1,8 @@
-use Rattle.trace_replay.proofs.Turns.{stops_end, stops_fault, stops_long, stops_over, stops_unfinished, turn_goes, turn_stops}
+use Rattle.trace_replay.proofs.Turns.{Fetched, at_end_met, at_fault, at_long, at_over, at_unfinished, fetched_as, given_line, line_ends, never_put, never_taken, none_at_hand, turn_goes, turn_stops}
 use Rattle.trace_replay.proofs.lines.answer_next.Goals as goal
 
-pub x : goal.x
-x g c = ?s
+pub returns-in-Line-clause-ok : goal.returns-in-Line-clause-ok
+returns-in-Line-clause-ok g c = ?ok
+
+pub returns-in-Long-clause-err : goal.returns-in-Long-clause-err
+returns-in-Long-clause-err g c = ?long
