@@ -1,7 +1,6 @@
 //! The stable queue of one unit: its slots, the one that goes first, and how many they are.
 #![tactic(auto)]
 
-pub mod foreign;
 mod item;
 pub mod laws;
 mod queue;

@@ -1,5 +1,7 @@
 ghost use Rattle.link_arena.specs.Arena.{IsLive};
 
+mod offers;
+
 use crate::laws::{stays_where_inserted, stays_where_reserved};
 use crate::{Item, ThreadQueue};
 use link_arena::{Arena, Links};

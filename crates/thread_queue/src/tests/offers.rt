@@ -2,7 +2,6 @@ ghost use Rattle.std.specs.Prelude.{◌≡◌};
 ghost use Rattle.link_arena.specs.Arena.{IsLive};
 
 use crate::Item;
-use crate::foreign::{pop_uncounted, push_uncounted, rekey_uncounted, remove_uncounted};
 use link_arena::{Arena, Links};
 use pairing_heap::{Heap, laws as heaps};
 use sched_base::{Bucket, Thread};
@@ -65,7 +64,7 @@ impl Offers {
         heaps::stays_where_inserted::<Item, 1>();
         self.arena.reserve().expect(rt, "room");
         let slot = self.arena.insert_reserved(item_of(name, bucket, pri));
-        push_uncounted(&mut self.heap, &mut self.arena, slot);
+        self.heap.push_uncounted(&mut self.arena, slot);
     }
 
     // The first thread leaves the heap, by its slot: its name.
@@ -73,7 +72,7 @@ impl Offers {
         heaps::first_is_least::<Item, 1>();
         heaps::held_are_live::<Item, 1>();
         let slot = self.heap.peek()?;
-        remove_uncounted(&mut self.heap, &mut self.arena, slot);
+        self.heap.remove_uncounted(&mut self.arena, slot);
         Some(self.arena.get(slot).thread.facts().name)
     }
 
@@ -81,7 +80,7 @@ impl Offers {
     fn take(&mut self) -> Option<u32> {
         heaps::first_is_least::<Item, 1>();
         heaps::held_are_live::<Item, 1>();
-        let slot = pop_uncounted(&mut self.heap, &mut self.arena)?;
+        let slot = self.heap.pop_uncounted(&mut self.arena)?;
         Some(self.arena.get(slot).thread.facts().name)
     }
 
@@ -90,7 +89,7 @@ impl Offers {
         heaps::first_is_least::<Item, 1>();
         let slot = self.heap.peek()?;
         let item = item_of(name, bucket, pri);
-        Some(end_item(rekey_uncounted(&mut self.heap, &mut self.arena, slot, item)))
+        Some(end_item(self.heap.rekey_uncounted(&mut self.arena, slot, item)))
     }
 
     // Once the heap is empty, the threads leave the arena, and it ends.

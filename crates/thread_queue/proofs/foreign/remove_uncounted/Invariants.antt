@@ -1,4 +1,0 @@
-use Rattle.thread_queue.proofs.foreign.remove_uncounted.Given as goal
-
-abbrev pub ghosts-remove_by : goal.ghosts-remove_by
-ghosts-remove_by a = record { name = a.blank.name; parts = a.blank.parts }
