@@ -1,14 +1,14 @@
 -- Output that is put while a replay goes on, and when it stops.
-use Rattle.std.proofs.Common.{◌≡◌, ◌≢◌, ◌∙◌, ℕ, ◌+◌, ◌<◌, ◌≤◌, Bool, List, [], ◌++◌, Option, None, Some, Result, Ok, Err, drop, length, length-append, take, arith, ap, append_assoc, append-nil, inl, inr, refl, sym, subst}
+use Rattle.std.proofs.Common.{◌≡◌, ◌≢◌, ◌∙◌, ◌⊎◌, ℕ, ◌+◌, ◌<◌, ◌≤◌, Bool, List, [], ◌++◌, Option, None, Some, Result, Ok, Err, drop, length, length-append, take, arith, ap, append_assoc, append-nil, inl, inr, refl, sym, subst, true}
 use Rattle.std.proofs.lemmas.List.{take-append-drop, take-take, take_at}
 use Rattle.std.specs.Io.KnownBytes.{Appends}
-use Rattle.std.specs.Prelude.{OnErr, OnOk}
+use Rattle.std.specs.Prelude.{IfErr, OnErr, OnOk}
 use Rattle.sched_base.specs.Limits.{input_bytes}
-use Rattle.ports.specs.Devices.{AppendsPart}
+use Rattle.ports.specs.Devices.{AppendsPart, Rose, one_more}
 use Rattle.ports.specs.Feeds.{Feed}
 use Rattle.trace_replay.specs.Replaying.{IsFront, IsReadLittle, Replays}
 use Rattle.trace_replay.specs.SoFar.{SoFar}
-use Rattle.trace_replay.specs.Statuses.{HasWriteCause, PutsOnce}
+use Rattle.trace_replay.specs.Statuses.{HasWriteCause, PutsOnce, when_cut}
 use Rattle.trace_replay.specs.Traces.{CanAnswer, TraceView, setup_of}
 use Rattle.trace_replay.specs.UnderWay.{HasEnded, IsStopped, IsUnderWay}
 use Rattle.trace_replay.specs.declared.status.ReplayStatus.{ReplayStatus}
@@ -32,6 +32,11 @@ on_ok (Err e) f p = p
 pub on_err : {T E P Q : Type 0} (r : Result T E) → (P → Q) → OnErr r P → OnErr r Q
 on_err (Ok x) f p = p
 on_err (Err e) f p = f p
+
+-- of an Err with its error
+pub if_err : {T E : Type 0} {P Q : E → Type 0} (r : Result T E) → ((e : E) → P e → Q e) → IfErr r P → IfErr r Q
+if_err (Ok x) f p = p
+if_err (Err e) f p = f e p
 
 -- a replay under way may take a step more
 pub may_answer : (start begun : Option (List ℕ)) (t : TraceView) (feed : Feed) (left taken : Option (List ℕ)) → IsUnderWay start begun t feed left taken → CanAnswer t
@@ -102,7 +107,7 @@ stop_put start begun page left taken now status stop put = record {
 }
 
 -- a put of the last page failed
-pub stop_cut : (start begun : Option (List ℕ)) (page : List ℕ) (left taken now : Option (List ℕ)) (status : ReplayStatus) → IsStopped start begun page left taken status
+stop_cut : (start begun : Option (List ℕ)) (page : List ℕ) (left taken now : Option (List ℕ)) (status : ReplayStatus) → IsStopped start begun page left taken status
     → AppendsPart taken now page → status ≢ statuses.OutOfMemory → HasEnded start begun left now statuses.WriteFault
 stop_cut start begun page left taken now status stop part other =
     let n : ℕ = part.0 in
@@ -115,9 +120,9 @@ stop_cut start begun page left taken now status stop part other =
     }
 
 -- so too where memory ran out
-pub memory_cut : (start begun : Option (List ℕ)) (page : List ℕ) (left taken now : Option (List ℕ)) → IsStopped start begun page left taken statuses.OutOfMemory
+memory_cut : (start begun : Option (List ℕ)) (page : List ℕ) (left taken now : Option (List ℕ)) (status : ReplayStatus) → IsStopped start begun page left taken status
     → AppendsPart taken now page → HasEnded start begun left now statuses.OutOfMemory
-memory_cut start begun page left taken now stop part =
+memory_cut start begun page left taken now status stop part =
     let n : ℕ = part.0 in
     record {
       bytes = stop.bytes;
@@ -126,6 +131,47 @@ memory_cut start begun page left taken now stop part =
       written = appends_both begun taken now stop.put (take n page) stop.written part.2;
       replays = front_shorter _ (stop.put ++ take n page) (drop n page) (stop.put ++ page) stop.front (split_page stop.put page n);
     }
+
+-- want of memory stays, and every other status gives way
+cut_cases : (s : ReplayStatus) → ((s ≡ statuses.OutOfMemory) × (when_cut s ≡ statuses.OutOfMemory)) ⊎ ((s ≢ statuses.OutOfMemory) × (when_cut s ≡ statuses.WriteFault))
+cut_cases statuses.OutOfMemory = inl (refl, refl)
+cut_cases statuses.WriteFault = inr (λ e. cc, refl)
+cut_cases statuses.Done = inr (λ e. cc, refl)
+cut_cases statuses.Usage = inr (λ e. cc, refl)
+cut_cases (statuses.BadSetup what) = inr (λ e. cc, refl)
+cut_cases (statuses.BadLine line what) = inr (λ e. cc, refl)
+cut_cases (statuses.Differs line) = inr (λ e. cc, refl)
+cut_cases statuses.TooLong = inr (λ e. cc, refl)
+cut_cases statuses.ReadFault = inr (λ e. cc, refl)
+
+pub cut_ends : (start begun : Option (List ℕ)) (page : List ℕ) (left taken now : Option (List ℕ)) (status : ReplayStatus) → IsStopped start begun page left taken status
+    → AppendsPart taken now page → HasEnded start begun left now (when_cut status)
+cut_ends start begun page left taken now status stop part =
+    elim (cut_cases status) [
+      | inl is ↦ subst (HasEnded start begun left now) (sym is.1) (memory_cut start begun page left taken now status stop part)
+      | inr is ↦ subst (HasEnded start begun left now) (sym is.1) (stop_cut start begun page left taken now status stop part is.0)
+    ]
+
+pub cut_same : (status : ReplayStatus) → (when_cut status ≢ statuses.WriteFault) → when_cut status ≡ status
+cut_same status other =
+    elim (cut_cases status) [
+      | inl is ↦ is.1 ∙ sym is.0
+      | inr is ↦ absurd (other is.1)
+    ]
+
+pub cut_cause : (before now : ℕ) (status : ReplayStatus) → Rose before now → HasWriteCause before now (when_cut status)
+cut_cause before now status rose =
+    elim (cut_cases status) [
+      | inl is ↦ subst (HasWriteCause before now) (sym is.1) tt
+      | inr is ↦ subst (HasWriteCause before now) (sym is.1) rose
+    ]
+
+pub cut_once : (before now : ℕ) (failing : Bool) (status : ReplayStatus) → (now ≡ one_more before) × (failing ≡ true) → PutsOnce before now failing (when_cut status)
+cut_once before now failing status once =
+    elim (cut_cases status) [
+      | inl is ↦ subst (PutsOnce before now failing) (sym is.1) (inr once)
+      | inr is ↦ subst (PutsOnce before now failing) (sym is.1) once
+    ]
 
 -- ---- what is said of the devices
 

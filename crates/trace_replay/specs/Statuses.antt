@@ -30,3 +30,8 @@ PutsOnce before now failing _ = now ≡ before
 abbrev pub PutsExactly : ℕ → ℕ → Bool → ReplayStatus → Type 0
 PutsExactly before now failing WriteFault = (now ≡ one_more before) × (failing ≡ true)
 PutsExactly before now failing _ = now ≡ before
+
+-- the status where a put of the last lines fails: want of memory stays
+abbrev pub when_cut : ReplayStatus → ReplayStatus
+when_cut OutOfMemory = OutOfMemory
+when_cut _ = WriteFault

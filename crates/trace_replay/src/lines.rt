@@ -5,7 +5,7 @@ ghost use Rattle.sched_base.specs.Limits.{input_bytes};
 ghost use Rattle.ports.specs.Devices.{HasCause, StopsAtFailure};
 ghost use Rattle.ports.specs.Feeds.{Feed};
 ghost use Rattle.ports.specs.LineFeed.{IsAtHand};
-ghost use Rattle.trace_replay.specs.Statuses.{HasReadCause, HasWriteCause, PutsOnce, ReadsExactly};
+ghost use Rattle.trace_replay.specs.Statuses.{HasReadCause, HasWriteCause, PutsOnce, ReadsExactly, when_cut};
 ghost use Rattle.trace_replay.specs.Traces.{CanAnswer, CanEnd};
 ghost use Rattle.trace_replay.specs.UnderWay.{HasEnded, IsStopped, IsUnderWay};
 ghost use Rattle.trace_text.specs.Pages.{HasRoom};
@@ -86,6 +86,16 @@ fn answer_next<C: Cluster, S: Source>(
     }
 }
 
+/// The status of a replay that ends with this one, where a put of the lines before it fails.
+fn when_cut(status: ReplayStatus) -> ReplayStatus
+    ensures { result ≡ when_cut status }
+{
+    match status {
+        ReplayStatus::OutOfMemory => ReplayStatus::OutOfMemory,
+        _ => ReplayStatus::WriteFault,
+    }
+}
+
 /// Puts the lines before the one that ended the replay. Where a put fails, that is the status,
 /// unless memory ran out.
 fn put_last<C: Cluster, K: Sink>(
@@ -104,8 +114,7 @@ fn put_last<C: Cluster, K: Sink>(
 {
     match trace.put(sink) {
         Ok(()) => status,
-        Err(Failed) if matches!(status, ReplayStatus::OutOfMemory) => status,
-        Err(Failed) => ReplayStatus::WriteFault,
+        Err(Failed) => when_cut(status),
     }
 }
 
