@@ -15,3 +15,4 @@ pub mod Settled
 pub mod Taking
 pub mod TextLines
 pub mod Turns
+pub mod Starting

@@ -9,7 +9,7 @@ use Rattle.ports.specs.Feeds.{Feed}
 use Rattle.trace_replay.specs.Replaying.{IsFront, IsReadLittle, Replays}
 use Rattle.trace_replay.specs.SoFar.{SoFar}
 use Rattle.trace_replay.specs.Statuses.{HasWriteCause, PutsOnce, when_cut}
-use Rattle.trace_replay.specs.Traces.{CanAnswer, TraceView, setup_of}
+use Rattle.trace_replay.specs.Traces.{CanAnswer, CanEnd, TraceView, setup_of}
 use Rattle.trace_replay.specs.UnderWay.{HasEnded, IsStopped, IsUnderWay}
 use Rattle.trace_replay.specs.declared.status.ReplayStatus.{ReplayStatus}
 use Rattle.trace_replay.specs.declared.status.ReplayStatus.TheVariants as statuses
@@ -45,6 +45,10 @@ may_answer start begun t feed left taken way = record {
   steps = omega (arith, way.steps, way.number, way.lines.within);
   line = omega (arith, way.number, way.lines.within);
 }
+
+-- it may end, whatever its page
+pub may_end : (t next : TraceView) → CanAnswer t → next ≡ record t { page = next.page } → CanEnd next
+may_end t next can same = subst CanEnd (sym same) (record { machine = can.machine; steps = omega (arith, can.steps) })
 
 -- the page was put
 pub page_put : (start begun : Option (List ℕ)) (t next : TraceView) (feed : Feed) (left taken now : Option (List ℕ)) → IsUnderWay start begun t feed left taken

@@ -321,18 +321,15 @@ stops_fault start begun t old new before left taken s open_still =
 -- ---- by the answer of the feed
 
 -- what the feed's answer says, over a source that had this left before and has this now
-pub record Fetched (old new : Feed) (before left : Option (List ℕ)) (was now : ℕ) (answer : Fed) : Type 0 where
-  pub fed : IsFed line_limit left was now new answer
+pub record Fetched (limit : ℕ) (old new : Feed) (before left : Option (List ℕ)) (was now : ℕ) (answer : Fed) : Type 0 where
+  pub fed : IsFed limit left was now new answer
   pub bytes : Consumes (bytes_ahead old before) (bytes_ahead new left) (given_by new answer)
   pub keeps : StartsWith (in_hand new answer) old.held
   pub passed : new.passed ≡ old.passed + length (given_by new answer)
-  pub ahead : new.passed + length new.held < decided_by line_limit new answer + piece_bytes
+  pub ahead : new.passed + length new.held < decided_by limit new answer + piece_bytes
   pub most : new.passed + length new.held ≤ input_bytes + 1
 
-pub fetched_as : (old new : Feed) (before left : Option (List ℕ)) (was now : ℕ) (a b : Fed) → a ≡ b → Fetched old new before left was now a → Fetched old new before left was now b
-fetched_as old new before left was now a b same fetched = subst (λ r. Fetched old new before left was now r) same fetched
-
-pub given_line : (start begun : Option (List ℕ)) (t : TraceView) (old new : Feed) (before left taken : Option (List ℕ)) (was now : ℕ) → Fetched old new before left was now fed.Line
+pub given_line : (start begun : Option (List ℕ)) (t : TraceView) (old new : Feed) (before left taken : Option (List ℕ)) (was now : ℕ) → Fetched line_limit old new before left was now fed.Line
     → IsUnderWay start begun t old before taken → Given start begun t old new before left taken
 given_line start begun t old new before left taken was now fetched way = record {
   way = way;
@@ -342,33 +339,33 @@ given_line start begun t old new before left taken was now fetched way = record 
   few = omega (arith, fetched.ahead);
 }
 
-pub at_long : (start begun : Option (List ℕ)) (t : TraceView) (old new : Feed) (before left taken : Option (List ℕ)) (was now : ℕ) → Fetched old new before left was now fed.Long
+pub at_long : (start begun : Option (List ℕ)) (t : TraceView) (old new : Feed) (before left taken : Option (List ℕ)) (was now : ℕ) → Fetched line_limit old new before left was now fed.Long
     → IsUnderWay start begun t old before taken → IsStopped start begun t.page left taken (statuses.BadLine t.line line_faults.Long)
 at_long start begun t old new before left taken was now fetched way =
     stops_long start begun t old new before left taken (record { way = way; consumed = fetched.bytes; passed = fetched.passed }) fetched.fed.1 fetched.ahead
 
-pub at_unfinished : (start begun : Option (List ℕ)) (t : TraceView) (old new : Feed) (before left taken : Option (List ℕ)) (was now : ℕ) → Fetched old new before left was now fed.Unfinished
+pub at_unfinished : (start begun : Option (List ℕ)) (t : TraceView) (old new : Feed) (before left taken : Option (List ℕ)) (was now : ℕ) → Fetched line_limit old new before left was now fed.Unfinished
     → IsUnderWay start begun t old before taken → IsStopped start begun t.page left taken (statuses.BadLine t.line line_faults.Unfinished)
 at_unfinished start begun t old new before left taken was now fetched way =
     stops_unfinished start begun t old new before left taken (record { way = way; consumed = fetched.bytes; passed = fetched.passed }) fetched.fed.1 fetched.fed.2 fetched.fed.3
 
-pub at_end_met : (start begun : Option (List ℕ)) (t : TraceView) (old new : Feed) (before left taken : Option (List ℕ)) (was now : ℕ) → Fetched old new before left was now fed.End
+pub at_end_met : (start begun : Option (List ℕ)) (t : TraceView) (old new : Feed) (before left taken : Option (List ℕ)) (was now : ℕ) → Fetched line_limit old new before left was now fed.End
     → IsUnderWay start begun t old before taken → IsStopped start begun t.page left taken statuses.Done
 at_end_met start begun t old new before left taken was now fetched way =
     stops_end start begun t old new before left taken (record { way = way; consumed = fetched.bytes; passed = fetched.passed }) fetched.fed.1 fetched.fed.2
 
-pub at_fault : (start begun : Option (List ℕ)) (t : TraceView) (old new : Feed) (before left taken : Option (List ℕ)) (was now : ℕ) → Fetched old new before left was now fed.Fault
+pub at_fault : (start begun : Option (List ℕ)) (t : TraceView) (old new : Feed) (before left taken : Option (List ℕ)) (was now : ℕ) → Fetched line_limit old new before left was now fed.Fault
     → IsUnderWay start begun t old before taken → IsStopped start begun t.page left taken statuses.ReadFault
 at_fault start begun t old new before left taken was now fetched way =
     stops_fault start begun t old new before left taken (record { way = way; consumed = fetched.bytes; passed = fetched.passed }) fetched.fed.1
 
-pub at_over : (start begun : Option (List ℕ)) (t : TraceView) (old new : Feed) (before left taken : Option (List ℕ)) (was now : ℕ) → Fetched old new before left was now fed.Over
+pub at_over : (start begun : Option (List ℕ)) (t : TraceView) (old new : Feed) (before left taken : Option (List ℕ)) (was now : ℕ) → Fetched line_limit old new before left was now fed.Over
     → IsUnderWay start begun t old before taken → IsStopped start begun t.page left taken statuses.TooLong
 at_over start begun t old new before left taken was now fetched way =
     stops_over start begun t old new before left taken (record { way = way; consumed = fetched.bytes; passed = fetched.passed }) fetched.fed.1 fetched.most
 
 -- a take fails only where the line was not at hand
-pub none_at_hand : (old new : Feed) (before left : Option (List ℕ)) (was now : ℕ) → Fetched old new before left was now fed.Fault → IsAtHand line_limit old → ⊥
+pub none_at_hand : (old new : Feed) (before left : Option (List ℕ)) (was now : ℕ) → Fetched line_limit old new before left was now fed.Fault → IsAtHand line_limit old → ⊥
 none_at_hand old new before left was now fetched hand =
     let still : IsOpen line_limit (counted new) new.held = fetched.fed.1 in
     let long : min (length old.held) (length new.held) ≡ length old.held =

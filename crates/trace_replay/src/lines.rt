@@ -137,7 +137,7 @@ pub(crate) fn answer_lines<C: Cluster, S: Source, K: Sink>(
     ensures write_exact { IsTrue K.is_exact → PutsOnce (K.faults sink.old) (K.faults sink.new) (K.is_failing sink.new) result }
 {
     loop {
-        if make_ready(trace, feed, sink).is_err() {
+        if let Err(Failed) = make_ready(trace, feed, sink) {
             return ReplayStatus::WriteFault;
         }
         if let Err(status) = answer_next(trace, feed, source) {

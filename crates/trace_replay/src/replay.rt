@@ -23,6 +23,13 @@ use std::alloc::{AllocError, Global};
 /// The most bytes of the setup line, without its newline.
 const SETUP_LIMIT: u32 = SETUP_BYTES as u32;
 
+/// The status of a setup line with a fault.
+fn bad_setup(what: SetupFault) -> ReplayStatus
+    ensures { result ≡ ReplayStatus.BadSetup what }
+{
+    ReplayStatus::BadSetup { what }
+}
+
 /// The setup that a line states.
 fn setup_of(alloc: Global, line: &[u8]) -> Result<Setup, ReplayStatus>
     ensures { ReadsSetup line.now result }
@@ -50,12 +57,9 @@ fn first_line<S: Source>(
 {
     match feed.next(source, SETUP_LIMIT) {
         Fed::Line => setup_of(alloc, feed.line()),
-        Fed::Long => Err(ReplayStatus::BadSetup {
-            what: SetupFault::Long,
-        }),
-        Fed::Unfinished | Fed::End => Err(ReplayStatus::BadSetup {
-            what: SetupFault::Unfinished,
-        }),
+        Fed::Long => Err(bad_setup(SetupFault::Long)),
+        Fed::Unfinished => Err(bad_setup(SetupFault::Unfinished)),
+        Fed::End => Err(bad_setup(SetupFault::Unfinished)),
         Fed::Fault => Err(ReplayStatus::ReadFault),
         Fed::Over => Err(ReplayStatus::TooLong),
     }
