@@ -13,3 +13,6 @@ mod words;
 
 pub use status::ReplayStatus;
 pub use top::replay_main;
+
+#[cfg(test)]
+mod tests;

@@ -1,0 +1,31 @@
+//! What the words after the program's name ask for.
+
+use super::{ARRIVAL_ORDER, asked, count_left, sink, source};
+use crate::{ReplayStatus, replay_main};
+use std::test::Fail;
+
+// Words that the command doesn't take leave the source and the sink alone.
+#[test]
+fn other_words_touch_nothing(rt: HostRuntime) -> Result<(), Fail> {
+    let alloc = rt.alloc();
+    let input = asked(alloc, &ARRIVAL_ORDER)?;
+    for line in [
+        "--load 7",
+        "--steps 1",
+        "--help",
+        "trace",
+        "--load 7 --steps 0",
+    ] {
+        let mut words = Vec::new(alloc);
+        for word in line.split_whitespace() {
+            words.push(String::from_str(alloc, word)?)?;
+        }
+        let mut source = source(alloc, &input, 4096, &[])?;
+        let mut sink = sink(alloc, 4096, &[])?;
+        let status = replay_main(alloc, &words, &mut source, &mut sink);
+        assert_eq!(rt; status, ReplayStatus::Usage, "{line}");
+        assert_eq!(rt; count_left(&mut source), input.len(), "{line}");
+        assert!(rt; sink.bytes().is_empty(), "{line}");
+    }
+    Ok(())
+}
