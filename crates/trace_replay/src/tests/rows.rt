@@ -136,7 +136,11 @@ fn clusters_with_every_edge(rt: HostRuntime) -> Result<(), Fail> {
     replays(&rt, rt.alloc(), &input, ReplayStatus::Done, &output)
 }
 
-/// The example of the crate's page.
+/// The setup of one cluster, and one step.
+const TWO_LINES: &str =
+    "{\"clusters\":[[1,1000]],\"edges\":[],\"groups\":[[0,0,0,0,0,0]],\"threads\":8,\"version\":1}\n0 0 select\n";
+
+// The caller that the crate's first page shows.
 #[test]
 fn two_lines_into_a_sink(rt: HostRuntime) -> Result<(), Fail> {
     let alloc = rt.alloc();
@@ -148,6 +152,3 @@ fn two_lines_into_a_sink(rt: HostRuntime) -> Result<(), Fail> {
     assert!(rt; sink.bytes().ends_with(b"0 0 select = -\n"));
     Ok(())
 }
-
-const TWO_LINES: &str =
-    "{\"clusters\":[[1,1000]],\"edges\":[],\"groups\":[[0,0,0,0,0,0]],\"threads\":8,\"version\":1}\n0 0 select\n";
