@@ -119,14 +119,15 @@ fn replays(
     Ok(())
 }
 
-/// How many bytes a source still gives, up to its first failure.
+/// How many bytes a source still gives, in its next 400 takes and up to its first failure.
 fn count_left<S: Source>(source: &mut S) -> usize {
     let mut left: usize = 0;
     let mut into = [0; 4096];
-    while let Ok(count) = source.take(&mut into)
-        && count > 0
-    {
-        left = left.saturating_add(count);
+    for _ in 0..400 {
+        match source.take(&mut into) {
+            Ok(count) => left = left.saturating_add(count),
+            Err(_) => break,
+        }
     }
     left
 }
