@@ -2,7 +2,17 @@
 
 use super::{ARRIVAL_ORDER, asked, count_left, sink, source};
 use crate::{ReplayStatus, replay_main};
+use std::alloc::{AllocError, Global};
 use std::test::Fail;
+
+/// The words of a line.
+fn words(alloc: Global, line: &str) -> Result<Vec<String>, AllocError> {
+    let mut words = Vec::new(alloc);
+    for word in line.split_whitespace() {
+        words.push(String::from_str(alloc, word)?)?;
+    }
+    Ok(words)
+}
 
 // Words that the command doesn't take leave the source and the sink alone.
 #[test]
@@ -16,10 +26,7 @@ fn other_words_touch_nothing(rt: HostRuntime) -> Result<(), Fail> {
         "trace",
         "--load 7 --steps 0",
     ] {
-        let mut words = Vec::new(alloc);
-        for word in line.split_whitespace() {
-            words.push(String::from_str(alloc, word)?)?;
-        }
+        let words = words(alloc, line)?;
         let mut source = source(alloc, &input, 4096, &[])?;
         let mut sink = sink(alloc, 4096, &[])?;
         let status = replay_main(alloc, &words, &mut source, &mut sink);
