@@ -1,5 +1,7 @@
 ghost use Rattle.std.specs.Prelude.{◌≡◌, ℕ, ◌+◌, ◌≤◌, Some, None, IsTrue, ◌↔◌, IsNone, IfSome, IfNone, List, ◌∷◌, ◌++◌, length, vec_len, vec_capacity};
 
+mod uncounted;
+
 use crate::clear::clear_from;
 use crate::meld::{add_root, take_root, take_slot};
 use crate::walk::{list_slots, next_slot};

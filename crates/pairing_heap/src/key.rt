@@ -30,3 +30,18 @@ pub trait Keyed<const K: usize> {
     fn key(&self) -> Self::Key
         ensures { result ≡ key_of self.now };
 }
+
+/// A key whose comparisons can be counted by any ledger, so that it is `Counted` by each. Code that has a key by this bound can
+/// choose who counts; code that has it by `Counted` alone can not.
+pub trait Tallied: HeapKey {
+    /// Whether `self` precedes `other`. Each call counts one comparison.
+    fn before_by<L: Ledger>(&self, other: &Self, steps: &mut Steps<L>) -> bool
+        ensures answer { result ≡ Self.precedes self.now other.now }
+        ensures tick { steps.new ≡ steps.old + 1 };
+}
+
+impl<L: Ledger, X: Tallied> Counted<L> for X {
+    fn before(&self, other: &Self, steps: &mut Steps<L>) -> bool {
+        self.before_by::<L>(other, steps)
+    }
+}

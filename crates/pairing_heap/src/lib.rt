@@ -12,5 +12,5 @@ mod tests;
 mod walk;
 
 pub use heap::Heap;
-pub use key::{Counted, HeapKey, Keyed};
+pub use key::{Counted, HeapKey, Keyed, Tallied};
 pub use steps::Steps;

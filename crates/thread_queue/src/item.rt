@@ -1,6 +1,6 @@
 ghost use Rattle.std.specs.Prelude.{◌≡◌};
 
-use pairing_heap::{Counted, HeapKey, Keyed, Steps};
+use pairing_heap::{Counted, HeapKey, Keyed, Steps, Tallied};
 use sched_base::Thread;
 use std::sync::ledger::Ledger;
 
@@ -98,8 +98,8 @@ impl HeapKey for ForeignKey {
     ghost order = { foreign_order };
 }
 
-impl<L: Ledger> Counted<L> for ForeignKey {
-    fn before(&self, other: &Self, steps: &mut Steps<L>) -> bool {
+impl Tallied for ForeignKey {
+    fn before_by<L: Ledger>(&self, other: &Self, steps: &mut Steps<L>) -> bool {
         steps.tick();
         if self.bucket != other.bucket {
             self.bucket < other.bucket

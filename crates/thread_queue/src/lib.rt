@@ -6,6 +6,7 @@ pub mod laws;
 mod queue;
 #[cfg(test)]
 mod tests;
+mod uncounted;
 
 pub use item::{ForeignKey, Item, ItemKey};
 pub use queue::ThreadQueue;

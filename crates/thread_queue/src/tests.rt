@@ -1,15 +1,14 @@
-ghost use Rattle.std.specs.Prelude.{◌≡◌, ◌<◌};
 ghost use Rattle.link_arena.specs.Arena.{IsLive};
+
+mod offers;
 
 use crate::laws::{stays_where_inserted, stays_where_reserved};
 use crate::{Item, ThreadQueue};
 use link_arena::{Arena, Links};
-use pairing_heap::Steps;
 use sched_base::{Bucket, Thread};
 use std::alloc::Global;
-use std::marker::{Brand, Model};
+use std::marker::Model;
 use std::process::Abort;
-use std::sync::ledger::{Blank, Ledger};
 
 // A queue that stands in its arena.
 struct Bench {
@@ -38,7 +37,7 @@ impl Bench {
     }
 
     // A thread of this name, priority and order number enters.
-    fn enter<R: Abort, L: Ledger>(&mut self, rt: &R, row: (u32, u8, i64), steps: &mut Steps<L>) {
+    fn enter<R: Abort>(&mut self, rt: &R, row: (u32, u8, i64)) {
         stays_where_reserved();
         stays_where_inserted();
         assert!(rt; self.queue.len() < 4096);
@@ -50,21 +49,22 @@ impl Bench {
             number,
             arrival: 0,
         });
-        self.queue.push(&mut self.arena, slot, steps);
+        self.queue.push_uncounted(&mut self.arena, slot);
     }
 
     // The first thread leaves the queue: its name.
-    fn leave<L: Ledger>(&mut self, steps: &mut Steps<L>) -> Option<u32> {
+    fn leave(&mut self) -> Option<u32> {
         let slot = self.queue.first()?;
         let name = self.arena.get(slot).thread.facts().name;
-        self.queue.remove(&mut self.arena, slot, steps);
+        self.queue.remove_uncounted(&mut self.arena, slot);
         Some(name)
     }
 
     // The first thread is settled, with another priority.
-    fn settle_first<L: Ledger>(&mut self, pri: u8, steps: &mut Steps<L>) {
+    fn settle_first(&mut self, pri: u8) {
         if let Some(slot) = self.queue.first() {
-            self.queue.settle(&mut self.arena, slot, 5, 9, pri, steps);
+            self.queue
+                .settle_uncounted(&mut self.arena, slot, 5, 9, pri);
         }
     }
 
@@ -127,44 +127,24 @@ fn row_of(items: [(u32, u8, i64); 3], settled: Option<u8>, wanted: [u32; 3]) -> 
     }
 }
 
-// Who leaves.
-fn run<R: Abort, L: Ledger>(
-    rt: &R,
-    alloc: Global,
-    row: &Row,
-    steps: &mut Steps<L>,
-) -> [Option<u32>; 4] {
+// Who leaves. No comparison is counted, so nothing here is generic in a ledger.
+fn run<R: Abort>(rt: &R, alloc: Global, row: &Row) -> [Option<u32>; 4] {
     let mut bench = Bench::new(rt, alloc);
     for item in row.items {
-        bench.enter(rt, item, steps);
+        bench.enter(rt, item);
     }
     if let Some(pri) = row.settled {
-        bench.settle_first(pri, steps);
+        bench.settle_first(pri);
     }
     let slots = bench.slots(rt, alloc);
     assert_eq!(rt; slots.len(), 3);
     assert!(rt; slots.contains(&0) && slots.contains(&1) && slots.contains(&2));
     let mut names = [None; 4];
     for name in names.iter_mut() {
-        *name = bench.leave(steps);
+        *name = bench.leave();
     }
     bench.end(rt);
     names
-}
-
-fn check<R: Abort, L: Ledger>(rt: &R, alloc: Global, rows: &[Row], blank: Blank)
-    requires name { blank.name ≡ L.name }
-    requires parts { blank.parts ≡ L.parts }
-    requires some { 0 < blank.parts }
-{
-    let mut steps = Steps::<L>::new(blank);
-    for row in rows {
-        let [a, b, c] = row.wanted;
-        assert_eq!(rt;
-            run(rt, alloc, row, &mut steps),
-            [Some(a), Some(b), Some(c), None]
-        );
-    }
 }
 
 #[test]
@@ -180,5 +160,11 @@ fn who_goes_first(rt: HostRuntime) {
         row_of([(1, 31, 5), (2, 31, 3), (3, 30, 1)], Some(30), [1, 3, 2]),
         row_of([(1, 31, 5), (2, 31, 3), (3, 31, 8)], Some(127), [2, 1, 3]),
     ];
-    check::<_, Brand>(&rt, rt.alloc(), &rows, Blank::new(1));
+    for row in rows {
+        let [a, b, c] = row.wanted;
+        assert_eq!(rt;
+            run(&rt, rt.alloc(), &row),
+            [Some(a), Some(b), Some(c), None]
+        );
+    }
 }

@@ -18,6 +18,7 @@ pub mod MovingActs
 pub mod Noting
 pub mod PullActs
 pub mod QueueRoom
+pub mod Queued
 pub mod Readings
 pub mod Refusals
 pub mod Running

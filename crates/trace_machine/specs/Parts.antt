@@ -1,5 +1,5 @@
 -- The clusters and the hands of a machine in code, and when an act at them does what the policy says.
-use Rattle.std.specs.Prelude.{List, None, Option, Some, [], length, map, slice_index_or, ℕ, ◌*◌, ◌+◌, ◌<◌, ◌≡◌, ◌≢◌, ◌≤◌, ◌^◌}
+use Rattle.std.specs.Prelude.{List, None, Option, Some, [], length, map, slice_index_or, sum_by, ℕ, ◌*◌, ◌+◌, ◌<◌, ◌≡◌, ◌≢◌, ◌≤◌, ◌^◌}
 use Rattle.sched_base.specs.declared.Act.{Act}
 use Rattle.sched_base.specs.declared.Answer.{Answer}
 use Rattle.sched_base.specs.declared.Facts.{Facts}
@@ -84,3 +84,7 @@ pub record Does (old new : PartsView) (a now : ℕ) (act : Act) (answer : Answer
 -- a ticket names the entry of a name in a queue
 abbrev pub IsQueuedAs : ClusterView → ℕ → Ticket → Type 0
 IsQueuedAs v name t = (e : Queued) × (standing v t.slot t.arrival ≡ Some e) × (named_entry v.flat name ≡ Some e)
+
+-- how many threads are queued in clusters
+abbrev pub queued_in : List ClusterView → ℕ
+queued_in vs = sum_by (λ (v : ClusterView). length v.flat.entries) vs

@@ -3,9 +3,15 @@ pub mod Beginning
 pub mod Ending
 pub mod Going
 pub mod LinesAgain
+pub mod LoadCounts
+pub mod LoadLines
+pub mod LoadSteps
 pub mod OptionReads
+pub mod Putting
 pub mod ReplayCommand
 pub mod ReplayedAgain
 pub mod SameAnswers
 pub mod Settled
+pub mod Taking
 pub mod TextLines
+pub mod Turns

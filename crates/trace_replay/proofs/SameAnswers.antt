@@ -19,12 +19,12 @@ same_equal (b ∷ bs) (c ∷ cs) same =
     ap₂ (λ (x : ℕ) (xs : List ℕ). x ∷ xs) (eqb-true b c parts.0) (same_equal bs cs parts.1)
 
 -- what the number of a key stands for
-numbered : {A : Type 0} → (ℕ → A) → List ℕ → Option A
+abbrev numbered : {A : Type 0} → (ℕ → A) → List ℕ → Option A
 numbered of [] = None
 numbered of (n ∷ ns) = Some (of n)
 
 -- the place of a key
-place_back : List ℕ → Option Place
+abbrev place_back : List ℕ → Option Place
 place_back [] = None
 place_back (k ∷ rest) =
     if k == 0 then numbered (λ c. places.Queue c) rest
@@ -41,7 +41,7 @@ place_again places.Ended = refl
 place_again places.Nowhere = refl
 
 -- the answer of a key
-answer_back : List ℕ → Option Answer
+abbrev answer_back : List ℕ → Option Answer
 answer_back [] = None
 answer_back (k ∷ rest) =
     if k == 0 then Some answers.Yes

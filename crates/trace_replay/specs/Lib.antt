@@ -1,6 +1,7 @@
 pub mod Firsts
 pub mod Laws
 pub mod LoadAnswers
+pub mod LoadsSoFar
 pub mod Replaying
 pub mod SoFar
 pub mod Statuses

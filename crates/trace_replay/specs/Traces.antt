@@ -30,9 +30,9 @@ pub record CanEnd (t : TraceView) : Type 0 where
   pub steps : t.machine.steps ≤ 2 ^ 50
 
 -- it is as after the setup line
-pub record IsBegun (setup : SetupParts) (t : TraceView) : Type 0 where
-  pub means : Means t.machine (empty_machine setup)
-  pub setup : setup_of t ≡ setup
+pub record IsBegun (stated : SetupParts) (t : TraceView) : Type 0 where
+  pub means : Means t.machine (empty_machine stated)
+  pub setup : setup_of t ≡ stated
   pub steps : t.machine.steps ≡ 0
   pub page : t.page ≡ []
   pub line : t.line ≡ 2

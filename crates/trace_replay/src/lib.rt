@@ -15,6 +15,7 @@
 
 pub mod laws;
 mod lines;
+mod load;
 mod replay;
 mod status;
 mod top;

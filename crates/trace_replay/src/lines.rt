@@ -1,9 +1,10 @@
 //! The lines of a trace, answered one after another.
 
-ghost use Rattle.std.specs.Prelude.{◌≡◌, ◌<◌, ◌≤◌, List, Option, IfErr, IsTrue, OnErr, OnOk, false, length, ℕ};
+ghost use Rattle.std.specs.Prelude.{◌≡◌, ◌<◌, ◌≤◌, ◌⊎◌, List, Option, IfErr, IsTrue, OnErr, OnOk, [], false, ℕ};
 ghost use Rattle.sched_base.specs.Limits.{input_bytes};
 ghost use Rattle.ports.specs.Devices.{HasCause, StopsAtFailure};
 ghost use Rattle.ports.specs.Feeds.{Feed};
+ghost use Rattle.ports.specs.LineFeed.{IsAtHand};
 ghost use Rattle.trace_replay.specs.Statuses.{HasReadCause, HasWriteCause, PutsOnce, ReadsExactly};
 ghost use Rattle.trace_replay.specs.Traces.{CanAnswer, CanEnd};
 ghost use Rattle.trace_replay.specs.UnderWay.{HasEnded, IsStopped, IsUnderWay};
@@ -29,6 +30,7 @@ fn make_ready<C: Cluster, K: Sink>(
     requires open { feed.now.done ≡ false }
     ensures ok { OnOk result ((start begun left : Option (List ℕ)) (f : Feed) → IsUnderWay start begun trace.old f left (K.taken sink.old) → IsUnderWay start begun trace.new f left (K.taken sink.new)) }
     ensures room { OnOk result (HasRoom trace.new.page) }
+    ensures ready { OnOk result ((trace.new.page ≡ []) ⊎ IsAtHand LINE_LIMIT feed.now) }
     ensures err { OnErr result ((start begun left : Option (List ℕ)) (f : Feed) → IsUnderWay start begun trace.old f left (K.taken sink.old) → HasEnded start begun left (K.taken sink.new) ReplayStatus.WriteFault) }
     ensures keeps { trace.new ≡ record trace.old { page = trace.new.page } }
     ensures cause { HasCause (K.faults sink.old) (K.faults sink.new) result }
@@ -62,10 +64,13 @@ fn answer_next<C: Cluster, S: Source>(
     requires ready { CanAnswer trace.old }
     requires room { HasRoom trace.old.page }
     requires open { feed.old.done ≡ false }
+    requires at_hand { (trace.old.page ≡ []) ⊎ IsAtHand LINE_LIMIT feed.old }
     ensures ok { OnOk result ((start begun taken : Option (List ℕ)) → IsUnderWay start begun trace.old feed.old (S.left source.old) taken → IsUnderWay start begun trace.new feed.new (S.left source.new) taken) }
     ensures on { OnOk result ((feed.old.passed < feed.new.passed) × (feed.new.passed ≤ input_bytes)) }
     ensures err { IfErr result (λ status. (start begun taken : Option (List ℕ)) → IsUnderWay start begun trace.old feed.old (S.left source.old) taken → IsStopped start begun trace.new.page (S.left source.new) taken status) }
     ensures machine { CanEnd trace.new }
+    ensures unlike { IfErr result (λ status. ¬ (status ≡ ReplayStatus.WriteFault)) }
+    ensures waiting { IfErr result (λ status. status ≡ ReplayStatus.ReadFault → trace.new.page ≡ []) }
     ensures cause { IfErr result (λ status. HasReadCause (S.faults source.old) (S.faults source.new) status) }
     ensures later { S.faults source.old ≤ S.faults source.new }
     ensures goes { IsTrue S.is_exact → OnOk result (S.faults source.new ≡ S.faults source.old) }
@@ -88,9 +93,11 @@ fn put_last<C: Cluster, K: Sink>(
     sink: &mut K,
     status: ReplayStatus,
 ) -> ReplayStatus
+    requires unlike { ¬ (status ≡ ReplayStatus.WriteFault) }
     ensures ended { (start begun left : Option (List ℕ)) → IsStopped start begun trace.old.page left (K.taken sink.old) status → HasEnded start begun left (K.taken sink.new) result }
     ensures keeps { trace.new ≡ record trace.old { page = trace.new.page } }
     ensures same { ¬ (result ≡ ReplayStatus.WriteFault) → result ≡ status }
+    ensures nothing { trace.old.page ≡ [] → result ≡ status }
     ensures cause { HasWriteCause (K.faults sink.old) (K.faults sink.new) result }
     ensures later { K.faults sink.old ≤ K.faults sink.new }
     ensures exact { IsTrue K.is_exact → PutsOnce (K.faults sink.old) (K.faults sink.new) (K.is_failing sink.new) result }

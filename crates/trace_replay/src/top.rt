@@ -9,6 +9,7 @@ ghost use Rattle.trace_replay.specs.UnderWay.{HasEnded};
 ghost use Rattle.trace_replay.specs.Words.{asked_by};
 ghost use Rattle.trace_replay.specs.declared.words.Asked.TheVariants.{Load, Replay};
 
+use crate::load::load;
 use crate::replay::replay;
 use crate::status::ReplayStatus;
 use crate::words::{Asked, asked_for};
@@ -57,7 +58,7 @@ pub fn replay_main<S: Source, K: Sink>(
 {
     match asked_for(alloc, words) {
         Ok(Asked::Replay) => replay::<PlainCluster, S, K>(alloc, source, sink),
-        Ok(Asked::Load { .. }) => ReplayStatus::OutOfMemory,
+        Ok(Asked::Load { seed, steps }) => load::<PlainCluster, K>(alloc, seed, steps, sink),
         Err(status) => status,
     }
 }

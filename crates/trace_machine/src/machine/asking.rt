@@ -3,6 +3,7 @@
 ghost use Rattle.std.specs.Prelude.{◌≡◌, ◌<◌};
 ghost use Rattle.flat_policy.specs.Policy.Machine.{MachineState, hand_at, live_count, place_of};
 ghost use Rattle.flat_policy.specs.Policy.Setup.{actor_count};
+ghost use Rattle.flat_policy.specs.Runs.LoadTrace.{queued_count};
 ghost use Rattle.trace_machine.specs.Machines.{IsMachine, Means};
 
 use super::{Machine, place_at};
@@ -36,6 +37,15 @@ impl<K: Cluster> Machine<K> {
         ensures { (g : MachineState) → Means self.now g → result ≡ live_count g.yard }
     {
         self.yard.live()
+    }
+
+    /// How many threads are queued, in all clusters.
+    pub fn queued(&self) -> u64
+        requires { IsMachine self.now }
+        ensures { (g : MachineState) → Means self.now g → result ≡ queued_count g }
+    {
+        self.stays();
+        self.parts.queued()
     }
 
     /// The setup that the machine was made with.

@@ -5,7 +5,7 @@ ghost use Rattle.sched_base.specs.declared.Facts.{Facts};
 ghost use Rattle.flat_policy.specs.Policy.Machine.{not_allowed};
 ghost use Rattle.flat_policy.specs.Policy.Setup.{actor_count, cluster_count, home_of};
 ghost use Rattle.migration.specs.Looks.{IsAim};
-ghost use Rattle.trace_machine.specs.Parts.{IsReady, cluster_at, hand_of};
+ghost use Rattle.trace_machine.specs.Parts.{IsReady, cluster_at, hand_of, queued_in};
 
 use super::Parts;
 use flat_policy::cluster::Cluster;
@@ -13,6 +13,7 @@ use flat_policy::laws::fitting_prefers_among;
 use flat_policy::setup::Setup;
 use migration::LookFirst;
 use sched_base::Facts;
+use sched_base::limits::MOST_CLUSTERS;
 
 impl<K: Cluster> Parts<K> {
     /// The setup that the parts were made with.
@@ -102,5 +103,16 @@ impl<K: Cluster> Parts<K> {
             Some(thread) => hand.looks.aim(&self.edges, &thread.facts()),
             None => unreachable!(),
         }
+    }
+    /// How many threads are queued in all clusters.
+    pub fn queued(&self) -> u64
+        requires { length self.now.clusters ≤ MOST_CLUSTERS }
+        ensures { result ≡ queued_in self.now.clusters }
+    {
+        let mut count: u64 = 0;
+        for cluster in &self.clusters {
+            count += cluster.len() as u64;
+        }
+        count
     }
 }

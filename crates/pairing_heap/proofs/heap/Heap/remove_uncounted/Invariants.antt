@@ -1,0 +1,4 @@
+use Rattle.pairing_heap.proofs.heap.Heap.remove_uncounted.Given as goal
+
+abbrev pub ghosts-take_by : goal.ghosts-take_by
+ghosts-take_by g a = record { name = a.blank.name; parts = a.blank.parts }
