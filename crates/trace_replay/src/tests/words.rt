@@ -1,6 +1,6 @@
 //! What the words after the program's name ask for.
 
-use super::{ARRIVAL_ORDER, asked, count_left, sink, source};
+use super::{ARRIVAL_ORDER, asked, count_left, sink, source, text};
 use crate::{ReplayStatus, replay_main};
 use std::alloc::{AllocError, Global};
 use std::test::Fail;
@@ -34,5 +34,33 @@ fn other_words_touch_nothing(rt: HostRuntime) -> Result<(), Fail> {
         assert_eq!(rt; count_left(&mut source), input.len(), "{line}");
         assert!(rt; sink.bytes().is_empty(), "{line}");
     }
+    Ok(())
+}
+
+// The load reads nothing, and its first step makes a thread.
+#[test]
+fn both_options_make_the_load(rt: HostRuntime) -> Result<(), Fail> {
+    let alloc = rt.alloc();
+    let input = asked(alloc, &ARRIVAL_ORDER)?;
+    let summary = [
+        "load 7 steps 1",
+        "make 1",
+        "enter 0",
+        "select 0 of 0",
+        "offer 0 of 0",
+        "ran 0",
+        "sleep 0",
+        "wake 0",
+        "end 0",
+        "refresh 0",
+        "queued 0",
+    ];
+    let words = words(alloc, "--load 7 --steps 1")?;
+    let mut source = source(alloc, &input, 4096, &[])?;
+    let mut sink = sink(alloc, 4096, &[])?;
+    let status = replay_main(alloc, &words, &mut source, &mut sink);
+    assert_eq!(rt; status, ReplayStatus::Done);
+    assert_eq!(rt; count_left(&mut source), input.len());
+    assert_eq!(rt; sink.bytes(), text(alloc, &summary)?.as_slice());
     Ok(())
 }
