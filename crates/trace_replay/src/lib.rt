@@ -7,7 +7,9 @@ pub mod laws;
 mod lines;
 mod replay;
 mod status;
+mod top;
 mod trace;
 mod words;
 
 pub use status::ReplayStatus;
+pub use top::replay_main;
