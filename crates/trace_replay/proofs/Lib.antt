@@ -16,3 +16,4 @@ pub mod Taking
 pub mod TextLines
 pub mod Turns
 pub mod Starting
+pub mod Whole

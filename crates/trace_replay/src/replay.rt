@@ -15,7 +15,7 @@ use crate::trace::Trace;
 use flat_policy::cluster::Cluster;
 use flat_policy::setup::Setup;
 use flat_policy::texts::SetupFault;
-use ports::{Fed, LineFeed, Sink, Source, put_all};
+use ports::{Failed, Fed, LineFeed, Sink, Source, put_all};
 use sched_base::limits::SETUP_BYTES;
 use setup_json::{SetupError, read_setup, write_setup};
 use std::alloc::{AllocError, Global};
@@ -90,7 +90,7 @@ fn begin<C: Cluster, K: Sink>(
 {
     let line = setup_line(alloc, &setup)?;
     let trace = Trace::new(alloc, setup)?;
-    if put_all(sink, &line).is_err() {
+    if let Err(Failed) = put_all(sink, &line) {
         trace.end();
         return Err(ReplayStatus::WriteFault);
     }

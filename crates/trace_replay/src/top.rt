@@ -59,7 +59,6 @@ pub fn replay_main<S: Source, K: Sink>(
     match asked_for(alloc, words) {
         Ok(Asked::Replay) => replay::<PlainCluster, S, K>(alloc, source, sink),
         Ok(Asked::Load { seed, steps }) => load::<PlainCluster, K>(alloc, seed, steps, sink),
-        Ok(Asked::Load { .. }) => ReplayStatus::OutOfMemory,
         Err(status) => status,
     }
 }
