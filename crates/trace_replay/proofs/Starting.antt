@@ -117,6 +117,19 @@ first_quiet (Err statuses.TooLong) line before now failing reads = absurd reads
 first_quiet (Err statuses.ReadFault) line before now failing reads = absurd reads
 first_quiet (Err statuses.WriteFault) line before now failing reads = absurd reads
 
+-- nor a put
+pub first_unlike : (r : Result SetupParts ReplayStatus) (line : List ℕ) → ReadsSetup line r → IfErr r (λ status. status ≢ statuses.WriteFault)
+first_unlike (Ok setup) line reads = tt
+first_unlike (Err (statuses.BadSetup what)) line reads = λ same. cc
+first_unlike (Err statuses.OutOfMemory) line reads = λ same. cc
+first_unlike (Err statuses.Done) line reads = absurd reads
+first_unlike (Err statuses.Usage) line reads = absurd reads
+first_unlike (Err (statuses.BadLine l what)) line reads = absurd reads
+first_unlike (Err (statuses.Differs l)) line reads = absurd reads
+first_unlike (Err statuses.TooLong) line reads = absurd reads
+first_unlike (Err statuses.ReadFault) line reads = absurd reads
+first_unlike (Err statuses.WriteFault) line reads = absurd reads
+
 -- no line was given
 held_first : (new : Feed) (before left : Option (List ℕ)) → Consumes before (bytes_ahead new left) [] → Consumes before left new.held
 held_first new before left taken = consumes_held before left new [] taken
@@ -253,7 +266,7 @@ way_begins setup t feed before left taken now first begun written =
       lines =
           subst (λ s. SoFar s (whole_line feed.line) (text ++ t.page) t.line (empty_machine setup)) (sym begun.setup)
           (subst (λ n. SoFar setup (whole_line feed.line) (text ++ t.page) n (empty_machine setup)) (sym begun.line)
-              (subst (λ x. SoFar setup (whole_line feed.line) x 2 (empty_machine setup)) page so));
+          (subst (λ x. SoFar setup (whole_line feed.line) x 2 (empty_machine setup)) page so));
       steps = omega (arith, begun.steps, begun.line);
       number = omega (arith, begun.line, long);
       passed = omega (arith, first.passed, long);

@@ -76,7 +76,7 @@ turn_goes start begun t next old new before left taken g answers =
       lines =
           subst (λ s. SoFar s (way.bytes ++ whole_line new.line) (way.put ++ next.page) next.line h) (sym takes.setup)
           (subst (λ n. SoFar (setup_of t) (way.bytes ++ whole_line new.line) (way.put ++ next.page) n h) number
-              (subst (λ x. SoFar (setup_of t) (way.bytes ++ whole_line new.line) x (suc t.line) h) text lines));
+          (subst (λ x. SoFar (setup_of t) (way.bytes ++ whole_line new.line) x (suc t.line) h) text lines));
       steps = omega (arith, way.steps, takes.steps, takes.next);
       number = omega (arith, way.number, takes.next, long, one);
       passed = omega (arith, g.passed, way.passed, long);
@@ -94,7 +94,7 @@ taken_by_line : (start begun : Option (List ℕ)) (t : TraceView) (old new : Fee
 taken_by_line start begun t old new before left taken g =
     subst (Consumes start left) (append_assoc g.way.bytes (whole_line new.line) new.held)
     (consumes_held start left new (g.way.bytes ++ whole_line new.line)
-        (consumes_both start (bytes_ahead old before) (bytes_ahead new left) g.way.bytes (whole_line new.line) g.way.consumed g.consumed))
+    (consumes_both start (bytes_ahead old before) (bytes_ahead new left) g.way.bytes (whole_line new.line) g.way.consumed g.consumed))
 
 -- where a line decides the status
 stopped_by_line : (start begun : Option (List ℕ)) (t : TraceView) (old new : Feed) (before left taken : Option (List ℕ)) (status : Status) (g : Given start begun t old new before left taken)
@@ -182,7 +182,7 @@ taken_in_all : (start begun : Option (List ℕ)) (t : TraceView) (old new : Feed
 taken_in_all start begun t old new before left taken s =
     consumes_held start left new s.way.bytes
     (subst (Consumes start (bytes_ahead new left)) (append-nil s.way.bytes)
-        (consumes_both start (bytes_ahead old before) (bytes_ahead new left) s.way.bytes [] s.way.consumed s.consumed))
+    (consumes_both start (bytes_ahead old before) (bytes_ahead new left) s.way.bytes [] s.way.consumed s.consumed))
 
 all_passed : (start begun : Option (List ℕ)) (t : TraceView) (old new : Feed) (before left taken : Option (List ℕ)) (s : Stopped start begun t old new before left taken)
     → input_bytes - length s.way.bytes ≡ counted new

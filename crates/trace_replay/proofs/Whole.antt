@@ -3,10 +3,15 @@ use Rattle.std.proofs.Common.{◌≡◌, ◌∙◌, ◌⊎◌, ℕ, ◌+◌, ◌
 use Rattle.std.proofs.lemmas.Bool.Decides.{nat_tests}
 use Rattle.std.proofs.lemmas.List.{take-append-le}
 use Rattle.std.specs.Io.KnownBytes.{Appends, Consumes, IsAtEnd}
+use Rattle.std.specs.Prelude.{IfSome}
 use Rattle.sched_base.specs.Limits.{input_bytes}
 use Rattle.flat_policy.specs.Texts.Streams.{Out, Status, StatusOf, Stop, bad_line, bad_setup, differs, done, end_met, over_met, too_long}
 use Rattle.trace_replay.specs.Replaying.{ComesTo, IsFaulty, IsOfWhole, IsWhole, counting, status_in, stop_of}
 use Rattle.trace_replay.specs.UnderWay.{HasEnded}
+use Rattle.trace_replay.specs.Words.{IsRefusal}
+use Rattle.trace_replay.specs.declared.words.Asked.{Asked}
+use Rattle.trace_replay.specs.declared.words.Asked.TheVariants as askeds
+use Rattle.trace_replay.proofs.Starting.{ends_at_once}
 use Rattle.trace_replay.specs.declared.status.ReplayStatus.{ReplayStatus}
 use Rattle.trace_replay.specs.declared.status.ReplayStatus.TheVariants as statuses
 
@@ -71,3 +76,23 @@ of_split all rest old new statuses.OutOfMemory e uncut = absurd uncut
 pub of_whole : (all : List ℕ) (left old new : Option (List ℕ)) (s : ReplayStatus) → HasEnded (Some all) old left new s → IsOfWhole all old new s
 of_whole all None old new s e = absurd e.consumed
 of_whole all (Some rest) old new s e = of_split all rest old new s e
+
+-- so where the source tells its bytes
+pub if_told : (start left old new : Option (List ℕ)) (s : ReplayStatus) → HasEnded start old left new s → IfSome start (λ all. IsOfWhole all old new s)
+if_told None left old new s e = tt
+if_told (Some all) left old new s e = of_whole all left old new s e
+
+none_is_some : None ≡ Some askeds.Replay → ⊥
+none_is_some same = cc
+
+-- where memory ran out while the words were read, nothing is done
+pub refused_replay : (asked : Option Asked) (s : ReplayStatus) (left taken : Option (List ℕ)) → IsRefusal asked s → asked ≡ Some askeds.Replay → HasEnded left taken left taken s
+refused_replay asked statuses.OutOfMemory left taken refused is = ends_at_once left taken
+refused_replay asked statuses.Usage left taken refused is = absurd (none_is_some (sym refused ∙ is))
+refused_replay asked statuses.Done left taken refused is = absurd refused
+refused_replay asked (statuses.BadSetup what) left taken refused is = absurd refused
+refused_replay asked (statuses.BadLine line what) left taken refused is = absurd refused
+refused_replay asked (statuses.Differs line) left taken refused is = absurd refused
+refused_replay asked statuses.TooLong left taken refused is = absurd refused
+refused_replay asked statuses.ReadFault left taken refused is = absurd refused
+refused_replay asked statuses.WriteFault left taken refused is = absurd refused

@@ -50,6 +50,7 @@ fn first_line<S: Source>(
     requires fresh { feed.old ≡ record { line = []; held = []; passed = 0; done = false } }
     ensures ok { IfOk result (λ setup. IsFirstLine setup (S.left source.old) feed.new (S.left source.new)) }
     ensures err { IfErr result (λ status. StopsFirst (S.left source.old) (S.left source.new) status) }
+    ensures unlike { IfErr result (λ status. ¬ (status ≡ ReplayStatus.WriteFault)) }
     ensures cause { IfErr result (λ status. HasReadCause (S.faults source.old) (S.faults source.new) status) }
     ensures later { S.faults source.old ≤ S.faults source.new }
     ensures goes { IsTrue S.is_exact → OnOk result (S.faults source.new ≡ S.faults source.old) }

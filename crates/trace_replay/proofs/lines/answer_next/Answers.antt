@@ -14,9 +14,9 @@ returns-in-Line-clause-ok g c =
     record { fed = c.in-Line.ensures.answer; bytes = c.in-Line.ensures.bytes; keeps = c.in-Line.ensures.keeps; passed = c.in-Line.ensures.passed; ahead = c.in-Line.ensures.ahead; most = c.in-Line.ensures.most } in
     on_ok c.answer_line.result
     (λ answers start begun taken way.
-        turn_goes start begun c.args.trace.now c.answer_line.new.self c.args.feed.now c.next.new.self (g.S.Source.left c.args.source.now) (g.S.Source.left c.next.new.source) taken
-        (given_line start begun c.args.trace.now c.args.feed.now c.next.new.self (g.S.Source.left c.args.source.now) (g.S.Source.left c.next.new.source) taken (g.S.Source.faults c.args.source.now) (g.S.Source.faults c.next.new.source) fetched way)
-        (subst (Answers c.args.trace.now c.answer_line.new.self) c.line.ensures answers))
+    turn_goes start begun c.args.trace.now c.answer_line.new.self c.args.feed.now c.next.new.self (g.S.Source.left c.args.source.now) (g.S.Source.left c.next.new.source) taken
+    (given_line start begun c.args.trace.now c.args.feed.now c.next.new.self (g.S.Source.left c.args.source.now) (g.S.Source.left c.next.new.source) taken (g.S.Source.faults c.args.source.now) (g.S.Source.faults c.next.new.source) fetched way)
+    (subst (Answers c.args.trace.now c.answer_line.new.self) c.line.ensures answers))
     c.answer_line.ensures.ok
 
 pub returns-in-Line-clause-err : goal.returns-in-Line-clause-err
@@ -25,10 +25,10 @@ returns-in-Line-clause-err g c =
     record { fed = c.in-Line.ensures.answer; bytes = c.in-Line.ensures.bytes; keeps = c.in-Line.ensures.keeps; passed = c.in-Line.ensures.passed; ahead = c.in-Line.ensures.ahead; most = c.in-Line.ensures.most } in
     if_err c.answer_line.result
     (λ status stops start begun taken way.
-        turn_stops start begun c.args.trace.now c.args.feed.now c.next.new.self (g.S.Source.left c.args.source.now) (g.S.Source.left c.next.new.source) taken c.answer_line.new.self.page status
-        (given_line start begun c.args.trace.now c.args.feed.now c.next.new.self (g.S.Source.left c.args.source.now) (g.S.Source.left c.next.new.source) taken (g.S.Source.faults c.args.source.now) (g.S.Source.faults c.next.new.source) fetched way)
-        stops.1.page
-        (subst (λ line. StopsLine c.args.trace.now line status) c.line.ensures stops.0))
+    turn_stops start begun c.args.trace.now c.args.feed.now c.next.new.self (g.S.Source.left c.args.source.now) (g.S.Source.left c.next.new.source) taken c.answer_line.new.self.page status
+    (given_line start begun c.args.trace.now c.args.feed.now c.next.new.self (g.S.Source.left c.args.source.now) (g.S.Source.left c.next.new.source) taken (g.S.Source.faults c.args.source.now) (g.S.Source.faults c.next.new.source) fetched way)
+    stops.1.page
+    (subst (λ line. StopsLine c.args.trace.now line status) c.line.ensures stops.0))
     c.answer_line.ensures.err
 
 pub returns-in-Line-clause-machine : goal.returns-in-Line-clause-machine

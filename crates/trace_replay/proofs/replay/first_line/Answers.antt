@@ -3,7 +3,7 @@ use Rattle.flat_policy.specs.Texts.Streams.{setup_limit}
 use Rattle.ports.specs.declared.line_feed.Fed.TheVariants as fed
 use Rattle.trace_replay.specs.Firsts.{ReadsSetup, StopsFirst}
 use Rattle.trace_replay.proofs.Putting.{if_err}
-use Rattle.trace_replay.proofs.Starting.{first_end, first_err, first_fault, first_long, first_ok, first_over, first_quiet, first_unfinished, fresh}
+use Rattle.trace_replay.proofs.Starting.{first_end, first_err, first_fault, first_long, first_ok, first_over, first_quiet, first_unfinished, first_unlike, fresh}
 use Rattle.trace_replay.proofs.Turns.{Fetched}
 use Rattle.trace_replay.proofs.replay.first_line.Goals as goal
 
@@ -73,3 +73,5 @@ returns-in-Over-clause-err g c =
     subst (λ old. Fetched setup_limit old c.next.new.self (g.S.Source.left c.args.source.now) (g.S.Source.left c.next.new.source) (g.S.Source.faults c.args.source.now) (g.S.Source.faults c.next.new.source) fed.Over) c.requires.fresh fetched in
     first_over c.next.new.self (g.S.Source.left c.args.source.now) (g.S.Source.left c.next.new.source) (g.S.Source.faults c.args.source.now) (g.S.Source.faults c.next.new.source) f
 
+pub returns-in-Line-clause-unlike : goal.returns-in-Line-clause-unlike
+returns-in-Line-clause-unlike g c = first_unlike c.setup_of.result c.line.result.now c.setup_of.ensures
