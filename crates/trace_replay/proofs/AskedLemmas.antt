@@ -1,5 +1,5 @@
 -- What words ask for: at no words, at words that are refused, and at two numbers.
-use Rattle.std.proofs.Common.{◌≡◌, ◌⊎◌, ◌∙◌, ◌<◌, ◌≤◌, ◌^◌, ap, ap₂, ℕ, Bool, false, true, List, [], ◌∷◌, Option, Some, None, refl, sym, subst, inl, inr, arith, codes, length, ne_eqb}
+use Rattle.std.proofs.Common.{◌≡◌, ◌≤◌, ap, ap₂, ℕ, false, List, [], ◌∷◌, Option, Some, None, refl, sym, subst, inl, inr, arith, codes, length, ne_eqb}
 use Rattle.std.specs.Prelude.{IfSome, unwrap_or}
 use Rattle.clap.specs.Kinds.{HasKind, IsAmong, Kinds}
 use Rattle.clap.specs.Faults.{fault_of}

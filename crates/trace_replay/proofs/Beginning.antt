@@ -1,17 +1,17 @@
 -- The setup line, and what comes in its place.
-use Rattle.std.proofs.Common.{◌≡◌, ◌≢◌, ◌∙◌, ◌⊎◌, ℕ, suc, ◌+◌, ◌-◌, ◌<◌, ◌≤◌, List, [], ◌∷◌, ◌++◌, Err, Ok, Option, Result, length, length-append, min, take, add-one, arith, ap, append_assoc, append-nil, refl, sym, subst, inl, inr, true, false}
+use Rattle.std.proofs.Common.{◌≡◌, ◌∙◌, ℕ, suc, ◌+◌, ◌-◌, ◌<◌, ◌≤◌, List, [], ◌∷◌, ◌++◌, Err, Ok, length, length-append, take, arith, ap, append_assoc, append-nil, refl, sym, subst, inl, inr}
 use Rattle.std.proofs.lemmas.Bool.{cases_lt}
 use Rattle.std.proofs.lemmas.Bool.Decides.{nat_tests}
 use Rattle.std.proofs.lemmas.List.{length-take, take-append-le, take-take, take_all, take_at}
 use Rattle.sched_base.specs.Limits.{input_bytes, piece_bytes}
-use Rattle.flat_policy.specs.Policy.Machine.{MachineState, empty_machine}
+use Rattle.flat_policy.specs.Policy.Machine.{empty_machine}
 use Rattle.flat_policy.specs.Policy.Setup.{SetupParts}
 use Rattle.flat_policy.specs.Texts.Lines.{newline}
 use Rattle.flat_policy.specs.Texts.SetupLines.{setup_text}
 use Rattle.flat_policy.specs.Texts.Streams.{Judged, Status, StatusOf, Stop, TextLines, after_text, bad_setup, fault_met, judge_setup, judge_trace, judged, read_fault, read_setup_line, setup_limit, status_at_stop, status_without_setup, stopped, text_lines}
 use Rattle.flat_policy.specs.declared.texts.SetupFault.{SetupFault}
 use Rattle.flat_policy.specs.declared.texts.SetupFault.TheVariants as setup_faults
-use Rattle.ports.specs.Lines.{HasNoNewline, IsLong, IsOpen, IsOver}
+use Rattle.ports.specs.Lines.{HasNoNewline, IsLong, IsOpen}
 use Rattle.trace_replay.specs.Replaying.{ComesTo, IsDecided, IsDecidedLate, counting}
 use Rattle.trace_replay.specs.SoFar.{SoFar}
 use Rattle.trace_replay.proofs.Going.{judged_from, line_and_more, plain_front, take_past, whole_line}

@@ -1,8 +1,7 @@
 -- What ends the lines of a trace.
-use Rattle.std.proofs.Common.{◌≡◌, ◌≢◌, ◌∙◌, ◌⊎◌, ℕ, suc, ◌+◌, ◌-◌, ◌<◌, ◌≤◌, List, [], ◌∷◌, ◌++◌, Err, Ok, Option, Result, length, length-append, min, take, add-one, arith, ap, append_assoc, append-nil, refl, sym, subst, inl, inr, true, false}
+use Rattle.std.proofs.Common.{◌≡◌, ◌≢◌, ◌∙◌, ℕ, suc, ◌+◌, ◌-◌, ◌<◌, ◌≤◌, List, [], ◌∷◌, ◌++◌, Err, Ok, length, length-append, take, arith, ap, append_assoc, append-nil, refl, sym, subst, true}
 use Rattle.std.proofs.lemmas.Bool.Decides.{nat_tests}
 use Rattle.std.proofs.lemmas.List.{length-take, take-append-le, take-take, take_all, take_at}
-use Rattle.std.specs.Io.KnownBytes.{IsAtEnd}
 use Rattle.sched_base.specs.Limits.{input_bytes, piece_bytes}
 use Rattle.flat_policy.specs.Policy.Machine.{MachineState, reply}
 use Rattle.flat_policy.specs.Policy.Setup.{SetupParts}
@@ -12,7 +11,7 @@ use Rattle.flat_policy.specs.declared.texts.Given.{Given}
 use Rattle.flat_policy.specs.declared.texts.LineFault.{LineFault}
 use Rattle.flat_policy.specs.declared.texts.LineFault.TheVariants as line_faults
 use Rattle.ports.specs.Lines.{HasNoNewline, IsLong, IsOpen, IsOver}
-use Rattle.trace_replay.specs.Replaying.{ComesTo, HasFault, IsDecided, IsDecidedLate, IsFaulty, IsFront, IsReadLittle, IsReadTo, IsWhole, counting}
+use Rattle.trace_replay.specs.Replaying.{ComesTo, HasFault, IsDecided, IsDecidedLate, IsFront, IsReadTo, counting}
 use Rattle.trace_replay.specs.SoFar.{SoFar}
 use Rattle.trace_replay.proofs.Going.{from_line, from_part, judged_from, plain_front, still_undecided, take_past, whole_line}
 use Rattle.trace_replay.proofs.TextLines.{LongFirst, long_first, long_line, long_rest}

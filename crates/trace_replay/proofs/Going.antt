@@ -1,18 +1,17 @@
 -- Lines answered one after another, and what ends them.
-use Rattle.std.proofs.Common.{◌≡◌, ◌≢◌, ◌∙◌, ◌⊎◌, ℕ, zero, suc, ◌+◌, ◌-◌, ◌<◌, ◌≤◌, List, min, [], ◌∷◌, ◌++◌, Ok, Err, Result, Bool, true, false, length, length-append, take, arith, ap, append_assoc, append-nil, refl, sym, subst, inl, inr}
+use Rattle.std.proofs.Common.{◌≡◌, ◌∙◌, ℕ, zero, suc, ◌+◌, ◌-◌, ◌≤◌, List, min, [], ◌∷◌, ◌++◌, Ok, false, length, length-append, take, arith, ap, append_assoc, append-nil, refl, sym, subst, inl, inr}
 use Rattle.std.proofs.lemmas.Bool.{cases_lt}
 use Rattle.std.proofs.lemmas.Bool.Decides.{nat_tests}
 use Rattle.std.proofs.lemmas.List.{get_or-take, length-take, take-append-le, take-take, take_all, take_at}
-use Rattle.sched_base.specs.Limits.{input_bytes, line_bytes, piece_bytes}
-use Rattle.flat_policy.specs.Policy.Machine.{MachineState, empty_machine, reply, state_after}
+use Rattle.sched_base.specs.Limits.{input_bytes}
+use Rattle.flat_policy.specs.Policy.Machine.{MachineState, reply, state_after}
 use Rattle.flat_policy.specs.Policy.Setup.{SetupParts}
-use Rattle.flat_policy.specs.Texts.Lines.{entry_text, line_limit, newline}
-use Rattle.flat_policy.specs.Texts.Streams.{Judged, Out, Status, StatusOf, Stop, TextLines, after_text, bad_line, contradicts, differs, done, end_met, fault_met, judge_line, judge_lines, judged, over_met, read_fault, status_after_lines, step_line, stopped, text_lines, too_long}
+use Rattle.flat_policy.specs.Texts.Lines.{entry_text, line_limit}
+use Rattle.flat_policy.specs.Texts.Streams.{Judged, StatusOf, Stop, after_text, contradicts, fault_met, judge_line, judge_lines, judged, read_fault, status_after_lines, step_line, stopped, text_lines}
 use Rattle.flat_policy.specs.declared.texts.Given.{Given}
-use Rattle.flat_policy.specs.declared.texts.LineFault.{LineFault}
 use Rattle.ports.specs.Lines.{HasNoNewline}
 use Rattle.trace_replay.specs.SoFar.{SoFar}
-use Rattle.trace_replay.proofs.TextLines.{line_first, no_line, with_line}
+use Rattle.trace_replay.proofs.TextLines.{line_first, no_line}
 
 -- texts before an output, one after the other
 pub after_both : (a b : List ℕ) (j : Judged) → after_text a (after_text b j) ≡ after_text (a ++ b) j

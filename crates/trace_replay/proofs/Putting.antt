@@ -1,12 +1,10 @@
 -- Output that is put while a replay goes on, and when it stops.
-use Rattle.std.proofs.Common.{◌≡◌, ◌≢◌, ◌∙◌, ◌⊎◌, ℕ, ◌+◌, ◌<◌, ◌≤◌, Bool, List, [], ◌++◌, Option, None, Some, Result, Ok, Err, drop, length, length-append, take, arith, ap, append_assoc, append-nil, inl, inr, refl, sym, subst, true}
+use Rattle.std.proofs.Common.{◌≡◌, ◌≢◌, ◌∙◌, ◌⊎◌, ℕ, ◌+◌, Bool, List, [], ◌++◌, Option, None, Some, Result, Ok, Err, drop, length, length-append, take, arith, ap, append_assoc, append-nil, inl, inr, refl, sym, subst, true}
 use Rattle.std.proofs.lemmas.List.{take-append-drop, take-take, take_at}
 use Rattle.std.specs.Io.KnownBytes.{Appends}
 use Rattle.std.specs.Prelude.{IfErr, OnErr, OnOk}
-use Rattle.sched_base.specs.Limits.{input_bytes}
 use Rattle.ports.specs.Devices.{AppendsPart, Rose, one_more}
 use Rattle.ports.specs.Feeds.{Feed}
-use Rattle.trace_replay.specs.Replaying.{IsFront, IsReadLittle, Replays}
 use Rattle.trace_replay.specs.SoFar.{SoFar}
 use Rattle.trace_replay.specs.Statuses.{HasWriteCause, PutsOnce, when_cut}
 use Rattle.trace_replay.specs.Traces.{CanAnswer, CanEnd, TraceView, setup_of}

@@ -1,5 +1,5 @@
 -- The replay's command: what clap's clauses see of it, and what they give of its two numbers.
-use Rattle.std.proofs.Common.{◌≡◌, ◌⊎◌, ◌∙◌, ◌<◌, ◌≤◌, ◌^◌, ap, ℕ, Bool, false, true, List, [], ◌∷◌, length, map, Option, Some, None, Ok, Err, Result, refl, sym, subst, inl, inr, arith, codes, zero, suc}
+use Rattle.std.proofs.Common.{◌≡◌, ◌∙◌, ◌<◌, ◌≤◌, ◌^◌, ap, ℕ, false, true, List, [], ◌∷◌, length, map, Option, Some, None, Ok, Result, refl, sym, subst, inl, inr, arith, codes, zero, suc}
 use Rattle.std.specs.Prelude.{IfSome, option_map, pos}
 use Rattle.std.specs.List.{All, slice_index, slice_index_or}
 use Rattle.std.specs.Str.{bytes_eq}
@@ -12,8 +12,8 @@ use Rattle.clap.specs.Built.{IsAuto, IsParsedFrom, IsPlain, IsPlainArg}
 use Rattle.clap.specs.Kinds.{Kinds}
 use Rattle.clap.specs.Lexer.{without_minus}
 use Rattle.clap.specs.Matches.{ReadsOne, found_of, one_text}
-use Rattle.clap.specs.Simple.{App, HasMatchesOf, Shape, app_of, has_plain_fields, is_simple, matches_of, shape_of}
-use Rattle.clap.specs.Walk.{Rule, Text, is_free_arg, is_simple_arg, one_of, rule_of, rows_of}
+use Rattle.clap.specs.Simple.{App, HasMatchesOf, app_of, has_plain_fields, is_simple}
+use Rattle.clap.specs.Walk.{Rule, Text, is_free_arg, is_simple_arg, one_of, rule_of}
 use Rattle.clap.specs.Faults.{fault_of, is_simple_and_free}
 use Rattle.clap.specs.Values.{Accepts}
 use Rattle.clap.specs.declared.builder.arg.Arg.{Arg}

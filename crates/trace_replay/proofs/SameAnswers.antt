@@ -1,5 +1,5 @@
 -- Two answers are the same where their keys are.
-use Rattle.std.proofs.Common.{◌≡◌, ◌∙◌, ◌↔◌, ℕ, zero, suc, List, [], ◌∷◌, Bool, Option, Some, None, true, false, ap, ap₂, inl, inr, refl, sym, subst, option_map, unwrap_or, ◌==◌}
+use Rattle.std.proofs.Common.{◌≡◌, ◌∙◌, ◌↔◌, ℕ, List, [], ◌∷◌, Bool, Option, Some, None, true, false, ap, ap₂, inl, inr, refl, sym, subst, option_map, unwrap_or, ◌==◌}
 use Rattle.std.proofs.lemmas.Bool.{and_from, and_parts, cases_Bool, eq-eqb, eqb-true, false≢true}
 use Rattle.std.specs.Prelude.{IsTrue, if◌then◌else◌}
 use Rattle.sched_base.specs.declared.Answer.{Answer}

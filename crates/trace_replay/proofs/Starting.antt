@@ -1,29 +1,27 @@
 -- The setup line of a replay, and what stands in its place.
-use Rattle.std.proofs.Common.{◌≡◌, ◌≢◌, ◌∙◌, ℕ, ◌+◌, ◌-◌, ◌<◌, ◌≤◌, List, [], ◌∷◌, ◌++◌, Option, None, Some, Result, Err, Ok, Bool, drop, length, length-append, take, arith, ap, append_assoc, append-nil, refl, sym, subst, inl, inr, false}
+use Rattle.std.proofs.Common.{◌≡◌, ◌≢◌, ◌∙◌, ℕ, ◌+◌, ◌-◌, ◌≤◌, List, [], ◌∷◌, ◌++◌, Option, None, Some, Result, Err, Ok, Bool, drop, length, length-append, take, arith, ap, append-nil, refl, sym, subst, inl, inr, false}
 use Rattle.std.proofs.lemmas.Bool.Decides.{nat_tests}
 use Rattle.std.proofs.lemmas.List.{take-append-drop, take_all}
-use Rattle.std.specs.Io.KnownBytes.{Appends, Consumes, IsAtEnd, prepend_known}
+use Rattle.std.specs.Io.KnownBytes.{Appends, Consumes, IsAtEnd}
 use Rattle.std.specs.Prelude.{IfErr, IfOk}
 use Rattle.sched_base.specs.Limits.{input_bytes, piece_bytes}
 use Rattle.flat_policy.specs.Policy.Machine.{empty_machine}
 use Rattle.flat_policy.specs.Policy.Setup.{SetupParts}
 use Rattle.flat_policy.specs.Texts.Lines.{newline}
 use Rattle.flat_policy.specs.Texts.SetupLines.{read_setup_text, setup_text}
-use Rattle.flat_policy.specs.Texts.Streams.{bad_setup, end_met, fault_met, read_fault, read_setup_line, setup_limit, status_at_stop}
+use Rattle.flat_policy.specs.Texts.Streams.{bad_setup, end_met, fault_met, read_setup_line, setup_limit, status_at_stop}
 use Rattle.flat_policy.specs.declared.texts.SetupFault.{SetupFault}
 use Rattle.flat_policy.specs.declared.texts.SetupFault.TheVariants as setup_faults
-use Rattle.ports.specs.Devices.{AppendsPart}
 use Rattle.ports.specs.Feeds.{Feed}
 use Rattle.ports.specs.LineFeed.{bytes_ahead, given_by}
 use Rattle.ports.specs.Lines.{HasNoNewline, IsLong, IsOpen}
 use Rattle.ports.specs.declared.line_feed.Fed.{Fed}
 use Rattle.ports.specs.declared.line_feed.Fed.TheVariants as fed
-use Rattle.trace_machine.specs.Machines.{Means}
 use Rattle.trace_replay.specs.Firsts.{IsFirstLine, ReadsSetup, StopsBegin, StopsFirst}
-use Rattle.trace_replay.specs.Replaying.{ComesTo, IsDecidedLate}
+use Rattle.trace_replay.specs.Replaying.{ComesTo}
 use Rattle.trace_replay.specs.SoFar.{SoFar}
 use Rattle.trace_replay.specs.Statuses.{HasReadCause, ReadsExactly}
-use Rattle.trace_replay.specs.Traces.{IsBegun, TraceView, setup_of}
+use Rattle.trace_replay.specs.Traces.{IsBegun, TraceView}
 use Rattle.trace_replay.specs.UnderWay.{HasEnded, IsUnderWay}
 use Rattle.trace_replay.specs.declared.status.ReplayStatus.{ReplayStatus}
 use Rattle.trace_replay.specs.declared.status.ReplayStatus.TheVariants as statuses

@@ -1,7 +1,6 @@
 -- A step that the machine of a replay took.
-use Rattle.std.proofs.Common.{◌≡◌, ◌∙◌, ◌++◌, ◌+◌, Bool, List, Ok, Option, Result, arith, false, true, ap, refl, sym, subst, ℕ}
+use Rattle.std.proofs.Common.{◌≡◌, ◌∙◌, ◌++◌, Bool, List, Ok, Result, arith, false, true, ap, sym, subst, ℕ}
 use Rattle.std.specs.Prelude.{IsTrue}
-use Rattle.sched_base.specs.declared.Answer.{Answer}
 use Rattle.sched_base.specs.declared.Entry.{Entry}
 use Rattle.sched_base.specs.declared.Step.{Step}
 use Rattle.flat_policy.specs.Policy.Machine.{MachineState, fits_step, reply, state_after}
@@ -11,9 +10,9 @@ use Rattle.flat_policy.specs.Texts.Pieces.{and_then}
 use Rattle.flat_policy.specs.Texts.Streams.{contradicts, if_fits, step_line}
 use Rattle.flat_policy.specs.declared.texts.LineFault.{LineFault}
 use Rattle.flat_policy.specs.declared.texts.Given.{Given}
-use Rattle.trace_machine.specs.Machines.{IsMachine, MachineView, Means, StepsTo, reply_in}
+use Rattle.trace_machine.specs.Machines.{IsMachine, MachineView, Means, StepsTo}
 use Rattle.trace_machine.specs.declared.Reply.{Reply}
-use Rattle.trace_replay.specs.Traces.{Contradicts, Goes, Takes, TraceView, setup_of}
+use Rattle.trace_replay.specs.Traces.{Contradicts, Goes, TraceView}
 use Rattle.trace_text.specs.Writing.{AnswerFits, StepFits}
 
 -- a step at the moment of a reply

@@ -1,6 +1,6 @@
 -- The lines of bytes whose first newline is known.
-use Rattle.std.proofs.Common.{◌≡◌, ◌≢◌, ℕ, zero, suc, ◌+◌, ◌<◌, ◌≤◌, ◌==◌, ◌⊎◌, List, [], ◌∷◌, ◌++◌, false, length, take, arith, ap, ne_eqb, refl, inl, inr}
-use Rattle.flat_policy.specs.Texts.Streams.{TextLines, before_lines, text_lines, with_byte}
+use Rattle.std.proofs.Common.{◌≡◌, ◌≢◌, ℕ, zero, suc, ◌<◌, List, [], ◌∷◌, ◌++◌, length, take, arith, ne_eqb, refl}
+use Rattle.flat_policy.specs.Texts.Streams.{TextLines, before_lines, text_lines}
 use Rattle.ports.specs.Lines.{HasNoNewline}
 
 pub plain_head : (b : ℕ) (bs : List ℕ) → HasNoNewline (b ∷ bs) → b ≢ 10

@@ -1,5 +1,5 @@
 -- One turn of a replay: the next line of the feed, answered or stopped at.
-use Rattle.std.proofs.Common.{◌≡◌, ◌≢◌, ◌∙◌, ◌⊎◌, ℕ, suc, ◌+◌, ◌-◌, ◌<◌, ◌≤◌, List, [], ◌∷◌, ◌++◌, Option, None, Some, Err, Ok, Result, length, min, length-append, take, add-one, arith, ap, append_assoc, append-nil, refl, sym, subst, inl, inr, false, true}
+use Rattle.std.proofs.Common.{◌≡◌, ◌≢◌, ◌∙◌, ℕ, suc, ◌+◌, ◌-◌, ◌<◌, ◌≤◌, List, [], ◌∷◌, ◌++◌, Option, None, Some, Err, Ok, Result, length, min, length-append, arith, ap, append_assoc, append-nil, refl, sym, subst, inl, inr}
 use Rattle.std.proofs.lemmas.List.{length-take, take_all}
 use Rattle.std.specs.Io.{StartsWith}
 use Rattle.std.specs.Io.KnownBytes.{Consumes, IsAtEnd}
@@ -7,15 +7,14 @@ use Rattle.std.specs.Prelude.{IfErr, OnOk}
 use Rattle.sched_base.specs.Limits.{input_bytes, piece_bytes}
 use Rattle.flat_policy.specs.Policy.Machine.{MachineState, reply, state_after}
 use Rattle.flat_policy.specs.Texts.Lines.{entry_text, line_limit}
-use Rattle.flat_policy.specs.Texts.Streams.{Status, Stop, bad_line, differs, done, end_met, fault_met, read_fault, status_at_stop, step_line, stopped, too_long}
+use Rattle.flat_policy.specs.Texts.Streams.{Status, bad_line, differs, done, end_met, fault_met, status_at_stop, stopped}
 use Rattle.flat_policy.specs.declared.texts.LineFault.TheVariants as line_faults
 use Rattle.ports.specs.Feeds.{Feed}
 use Rattle.ports.specs.LineFeed.{GivesLine, IsAtHand, IsFed, bytes_ahead, counted, decided_by, given_by, in_hand}
 use Rattle.ports.specs.Lines.{HasNoNewline, IsLong, IsOpen, IsOver}
 use Rattle.ports.specs.declared.line_feed.Fed.{Fed}
 use Rattle.ports.specs.declared.line_feed.Fed.TheVariants as fed
-use Rattle.trace_machine.specs.Machines.{Means}
-use Rattle.trace_replay.specs.Replaying.{ComesTo, HasFault, IsDecided, IsDecidedLate, IsFaulty, IsFront, IsReadLittle, IsWhole}
+use Rattle.trace_replay.specs.Replaying.{ComesTo, IsDecided, IsFaulty, IsFront, IsReadLittle}
 use Rattle.trace_replay.specs.SoFar.{SoFar}
 use Rattle.trace_replay.specs.Traces.{Answers, CanAnswer, CanEnd, Stays, StopsLine, TraceView, setup_of}
 use Rattle.trace_replay.specs.UnderWay.{IsStopped, IsUnderWay}

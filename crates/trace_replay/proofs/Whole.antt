@@ -1,11 +1,11 @@
 -- A replay of a source that tells all its bytes.
-use Rattle.std.proofs.Common.{◌≡◌, ◌∙◌, ◌⊎◌, ℕ, ◌+◌, ◌≤◌, ◌<◌, List, [], ◌++◌, Option, None, Some, length, length-append, take, arith, ap, append-nil, refl, sym, subst, inl, inr}
+use Rattle.std.proofs.Common.{◌≡◌, ◌∙◌, ℕ, ◌+◌, ◌≤◌, ◌<◌, List, ◌++◌, Option, None, Some, length, length-append, arith, ap, append-nil, sym, subst, inl, inr}
 use Rattle.std.proofs.lemmas.Bool.Decides.{nat_tests}
 use Rattle.std.proofs.lemmas.List.{take-append-le}
-use Rattle.std.specs.Io.KnownBytes.{Appends, Consumes, IsAtEnd}
+use Rattle.std.specs.Io.KnownBytes.{Appends}
 use Rattle.std.specs.Prelude.{IfSome}
 use Rattle.sched_base.specs.Limits.{input_bytes}
-use Rattle.flat_policy.specs.Texts.Streams.{Out, Status, StatusOf, Stop, bad_line, bad_setup, differs, done, end_met, over_met, too_long}
+use Rattle.flat_policy.specs.Texts.Streams.{Out, Status, StatusOf, bad_line, bad_setup, differs, done, end_met, over_met, too_long}
 use Rattle.trace_replay.specs.Replaying.{ComesTo, IsFaulty, IsOfWhole, IsWhole, counting, status_in, stop_of}
 use Rattle.trace_replay.specs.UnderWay.{HasEnded}
 use Rattle.trace_replay.specs.Words.{IsRefusal}

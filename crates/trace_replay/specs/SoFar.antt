@@ -1,6 +1,5 @@
 -- A replay under way: the lines that were answered, and what is left to answer and to write.
-use Rattle.std.specs.Io.KnownBytes.{Appends, Consumes}
-use Rattle.std.specs.Prelude.{List, Option, false, length, take, ℕ, ◌++◌, ◌+◌, ◌≡◌, ◌≤◌}
+use Rattle.std.specs.Prelude.{List, length, take, ℕ, ◌++◌, ◌≡◌, ◌≤◌}
 use Rattle.sched_base.specs.Limits.{input_bytes}
 use Rattle.flat_policy.specs.Policy.Machine.{MachineState}
 use Rattle.flat_policy.specs.Policy.Setup.{SetupParts}

@@ -1,4 +1,4 @@
-use Rattle.std.proofs.Common.{◌≡◌, ◌∙◌, ◌≤◌, arith}
+use Rattle.std.proofs.Common.{◌∙◌, arith}
 use Rattle.trace_replay.proofs.Putting.{may_answer, may_end}
 use Rattle.trace_replay.proofs.lines.answer_lines.Goals as goal
 

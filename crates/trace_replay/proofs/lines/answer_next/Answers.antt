@@ -1,9 +1,8 @@
-use Rattle.std.proofs.Common.{◌≡◌, List, Option, inl, inr, sym, subst, ℕ}
+use Rattle.std.proofs.Common.{inl, inr, sym, subst}
 use Rattle.flat_policy.specs.Texts.Lines.{line_limit}
-use Rattle.ports.specs.LineFeed.{IsAtHand}
 use Rattle.ports.specs.declared.line_feed.Fed.TheVariants as fed
 use Rattle.trace_replay.specs.Traces.{Answers, StopsLine}
-use Rattle.trace_replay.specs.UnderWay.{IsStopped, IsUnderWay}
+use Rattle.trace_replay.specs.UnderWay.{IsStopped}
 use Rattle.trace_replay.proofs.Putting.{if_err, on_ok}
 use Rattle.trace_replay.proofs.Turns.{Fetched, at_end_met, at_fault, at_long, at_over, at_unfinished, given_line, line_ends, never_put, never_taken, none_at_hand, turn_goes, turn_stops}
 use Rattle.trace_replay.proofs.lines.answer_next.Goals as goal

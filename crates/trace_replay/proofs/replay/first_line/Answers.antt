@@ -1,4 +1,4 @@
-use Rattle.std.proofs.Common.{◌≡◌, List, Option, subst, sym, ℕ}
+use Rattle.std.proofs.Common.{subst, sym}
 use Rattle.flat_policy.specs.Texts.Streams.{setup_limit}
 use Rattle.ports.specs.declared.line_feed.Fed.TheVariants as fed
 use Rattle.trace_replay.specs.Firsts.{ReadsSetup, StopsFirst}

@@ -1,11 +1,11 @@
-use Rattle.std.proofs.Common.{◌≡◌, ◌∙◌, ap, ℕ, List, [], Option, Some, map, sym, subst, codes, Global}
-use Rattle.std.specs.Prelude.{IfErr, IfOk}
+use Rattle.std.proofs.Common.{◌≡◌, ◌∙◌, ap, List, [], Option, map, sym, subst, Global}
+use Rattle.std.specs.Prelude.{IfErr}
 use Rattle.std.specs.String.{string_bytes}
 use Rattle.std.specs.Str.Parse.{ParsesUnsigned, ExplainsUnsignedError, HasUnsignedDigitsIfOk}
 use Rattle.std.proofs.lemmas.Result.{IfOk-weaker}
 use Rattle.clap.specs.Kinds.{HasKind, Kinds}
-use Rattle.clap.specs.Words.{Text, app_of, fault_of, kind_of}
-use Rattle.trace_replay.specs.Words.{IsRefusal, LoadIsInRange, asked_by, asked_of, refusal_of, replay_command}
+use Rattle.clap.specs.Words.{Text, kind_of}
+use Rattle.trace_replay.specs.Words.{IsRefusal, asked_by, asked_of, refusal_of}
 use Rattle.trace_replay.specs.declared.words.Asked.{Asked}
 use Rattle.trace_replay.proofs.AskedLemmas.{asked_taken, in_range, no_words, refused}
 use Rattle.trace_replay.proofs.ReplayCommand.{fault_is, seed_read, steps_read}

@@ -1,4 +1,4 @@
-use Rattle.std.proofs.Common.{◌≡◌, ◌∙◌, ◌+◌, ◌++◌, ap, arith, subst, sym}
+use Rattle.std.proofs.Common.{◌≡◌, ◌∙◌, ◌+◌, ◌++◌, ap, arith, subst}
 use Rattle.flat_policy.specs.Texts.Lines.{answered_text}
 use Rattle.trace_machine.specs.Machines.{StepsTo}
 use Rattle.trace_replay.proofs.Taking.{machine_goes_on, moved, setup_stays, taken_contradicts, taken_goes, taken_step_fits}
