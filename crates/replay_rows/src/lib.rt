@@ -6,7 +6,7 @@
 
 mod answered;
 
-pub use answered::is_answered_by;
+pub use answered::is_answered;
 
 #[cfg(test)]
 mod tests;

@@ -1,7 +1,6 @@
 //! Rows of two clusters: where threads may stand, looks and aims, offers, and power.
 
-use super::{FAR_CLUSTERS, ONE_CLUSTER, TWO_CLUSTERS, plays_whole, text};
-use crate::is_answered_by;
+use super::{FAR_CLUSTERS, ONE_CLUSTER, TWO_CLUSTERS, plays_whole, replays, text};
 use std::test::Fail;
 
 // A bound thread stays in its cluster and is not offered. The second cluster works at two fifths of
@@ -149,6 +148,6 @@ fn moments(rt: HostRuntime) -> Result<(), Fail> {
     ];
     let input = text(rt.alloc(), TWO_CLUSTERS, &asked)?;
     let output = text(rt.alloc(), TWO_CLUSTERS, &row)?;
-    assert_eq!(rt; is_answered_by(rt.alloc(), &input, &output), Ok(true));
+    replays(&rt, rt.alloc(), &input, &output)?;
     plays_whole(&rt, rt.alloc(), TWO_CLUSTERS, &row)
 }
