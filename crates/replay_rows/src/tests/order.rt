@@ -1,6 +1,6 @@
 //! Rows of one cluster: who is first, and what is refused.
 
-use super::{one_cluster, plays_whole};
+use super::{ONE_CLUSTER, ONE_THREAD, plays_whole};
 use std::test::Fail;
 
 // Equals are served as they came, and an empty queue has nobody.
@@ -17,7 +17,7 @@ fn arrival_order(rt: HostRuntime) -> Result<(), Fail> {
         "0 0 end = ok",
         "0 0 select = got 2",
     ];
-    plays_whole(&rt, rt.alloc(), &one_cluster(&rt, 8)?, &row)
+    plays_whole(&rt, rt.alloc(), ONE_CLUSTER, &row)
 }
 
 // A thread that enters again stands behind its equals.
@@ -32,7 +32,7 @@ fn enters_again(rt: HostRuntime) -> Result<(), Fail> {
         "0 0 enter 0 tail = pri 31",
         "0 0 select = got 2",
     ];
-    plays_whole(&rt, rt.alloc(), &one_cluster(&rt, 8)?, &row)
+    plays_whole(&rt, rt.alloc(), ONE_CLUSTER, &row)
 }
 
 // A thread that enters at the head comes first, and a queued thread may be pulled by its name.
@@ -50,7 +50,7 @@ fn head_and_pull(rt: HostRuntime) -> Result<(), Fail> {
         "0 0 pull 1 = ok",
         "0 0 wake 2 = no HandFull",
     ];
-    plays_whole(&rt, rt.alloc(), &one_cluster(&rt, 8)?, &row)
+    plays_whole(&rt, rt.alloc(), ONE_CLUSTER, &row)
 }
 
 // Of several refusals the first is told, and an ended thread makes room.
@@ -71,5 +71,5 @@ fn refusals_in_order(rt: HostRuntime) -> Result<(), Fail> {
         "0 0 end = ok",
         "0 0 end = no HandEmpty",
     ];
-    plays_whole(&rt, rt.alloc(), &one_cluster(&rt, 1)?, &row)
+    plays_whole(&rt, rt.alloc(), ONE_THREAD, &row)
 }

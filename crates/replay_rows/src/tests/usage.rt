@@ -1,6 +1,6 @@
 //! Rows of usage and interactivity, and of groups.
 
-use super::{one_cluster, plays_whole, two_groups};
+use super::{ONE_CLUSTER, TWO_GROUPS, plays_whole};
 use std::test::Fail;
 
 // A usage of 32000 lowers 31 by 2, and one tick leaves 20000 of it.
@@ -14,7 +14,7 @@ fn decay(rt: HostRuntime) -> Result<(), Fail> {
         "125000 0 select = got 1",
         "125000 0 enter 0 tail = pri 30",
     ];
-    plays_whole(&rt, rt.alloc(), &one_cluster(&rt, 8)?, &row)
+    plays_whole(&rt, rt.alloc(), ONE_CLUSTER, &row)
 }
 
 // With two threads in a unit 8000 of usage lower a priority by 1.
@@ -27,7 +27,7 @@ fn two_in_one_unit(rt: HostRuntime) -> Result<(), Fail> {
         "16000 0 ran 16000 = work 16000",
         "16000 0 enter 0 tail = pri 29",
     ];
-    plays_whole(&rt, rt.alloc(), &one_cluster(&rt, 8)?, &row)
+    plays_whole(&rt, rt.alloc(), ONE_CLUSTER, &row)
 }
 
 // Blocked for 10000 and run for 3000, group 0 has the score 13: a unit of FG at 45 against one of UI
@@ -44,7 +44,7 @@ fn interactivity(rt: HostRuntime) -> Result<(), Fail> {
         "13000 0 enter 0 tail = pri 28",
         "13000 0 select = got 1",
     ];
-    plays_whole(&rt, rt.alloc(), &one_cluster(&rt, 8)?, &row)?;
+    plays_whole(&rt, rt.alloc(), ONE_CLUSTER, &row)?;
     let row = [
         "0 0 make 1 0 FG 31 - = ok",
         "3000 0 ran 3000 = work 3000",
@@ -55,7 +55,7 @@ fn interactivity(rt: HostRuntime) -> Result<(), Fail> {
         "13000 0 enter 0 tail = pri 28",
         "13000 0 select = got 2",
     ];
-    plays_whole(&rt, rt.alloc(), &one_cluster(&rt, 8)?, &row)
+    plays_whole(&rt, rt.alloc(), ONE_CLUSTER, &row)
 }
 
 // Group 0 has the score 13 and so a unit at 46, group 1 has one at 47.
@@ -71,7 +71,7 @@ fn scores_by_group(rt: HostRuntime) -> Result<(), Fail> {
         "13000 0 enter 0 tail = pri 31",
         "13000 0 select = got 2",
     ];
-    plays_whole(&rt, rt.alloc(), &two_groups(&rt)?, &row)
+    plays_whole(&rt, rt.alloc(), TWO_GROUPS, &row)
 }
 
 // Units of two groups that are equal are served in turn.
@@ -94,5 +94,5 @@ fn groups_take_turns(rt: HostRuntime) -> Result<(), Fail> {
         "0 0 end = ok",
         "0 0 select = got 4",
     ];
-    plays_whole(&rt, rt.alloc(), &two_groups(&rt)?, &row)
+    plays_whole(&rt, rt.alloc(), TWO_GROUPS, &row)
 }

@@ -1,6 +1,6 @@
 //! Rows of buckets: warps, starvation, and what is above UI.
 
-use super::{one_cluster, one_cluster_timed, plays_whole};
+use super::{ONE_CLUSTER, WITH_WARP, WITHOUT_WARP, plays_whole};
 use std::test::Fail;
 
 // BG is due at 250000. FG passes it until its warp is spent at 268000; then BG is starved, and its
@@ -28,7 +28,7 @@ fn warp_and_starvation(rt: HostRuntime) -> Result<(), Fail> {
         "270000 0 end = ok",
         "270000 0 select = got 4",
     ];
-    plays_whole(&rt, rt.alloc(), &one_cluster(&rt, 8)?, &row)
+    plays_whole(&rt, rt.alloc(), ONE_CLUSTER, &row)
 }
 
 // A unit of FG and one of UI at 56 each: UI goes first.
@@ -41,7 +41,7 @@ fn above_ui_equal(rt: HostRuntime) -> Result<(), Fail> {
         "0 0 enter 0 tail = pri 40",
         "0 0 select = got 2",
     ];
-    plays_whole(&rt, rt.alloc(), &one_cluster(&rt, 8)?, &row)
+    plays_whole(&rt, rt.alloc(), ONE_CLUSTER, &row)
 }
 
 // A unit of FG at 57 against one of UI at 56: FG goes first.
@@ -56,7 +56,7 @@ fn above_ui_lower(rt: HostRuntime) -> Result<(), Fail> {
         "0 0 end = ok",
         "0 0 select = got 2",
     ];
-    plays_whole(&rt, rt.alloc(), &one_cluster(&rt, 8)?, &row)
+    plays_whole(&rt, rt.alloc(), ONE_CLUSTER, &row)
 }
 
 // Both lanes of UT are due at 150000, and that of the bound threads goes first.
@@ -71,7 +71,7 @@ fn bound_before_unbound(rt: HostRuntime) -> Result<(), Fail> {
         "0 0 end = ok",
         "0 0 select = got 1",
     ];
-    plays_whole(&rt, rt.alloc(), &one_cluster(&rt, 8)?, &row)
+    plays_whole(&rt, rt.alloc(), ONE_CLUSTER, &row)
 }
 
 // Without a warp FG doesn't pass BG, which was due at 250000; with one of 8000 it does.
@@ -84,7 +84,7 @@ fn times(rt: HostRuntime) -> Result<(), Fail> {
         "260000 0 enter 0 tail = pri 31",
         "260000 0 select = got 1",
     ];
-    plays_whole(&rt, rt.alloc(), &one_cluster_timed(&rt, 0)?, &row)?;
+    plays_whole(&rt, rt.alloc(), WITHOUT_WARP, &row)?;
     let row = [
         "0 0 make 1 0 BG 31 - = ok",
         "0 0 enter 0 tail = pri 31",
@@ -92,5 +92,5 @@ fn times(rt: HostRuntime) -> Result<(), Fail> {
         "260000 0 enter 0 tail = pri 31",
         "260000 0 select = got 2",
     ];
-    plays_whole(&rt, rt.alloc(), &one_cluster_timed(&rt, 8000)?, &row)
+    plays_whole(&rt, rt.alloc(), WITH_WARP, &row)
 }

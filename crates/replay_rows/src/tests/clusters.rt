@@ -1,8 +1,6 @@
 //! Rows of two clusters: where threads may stand, looks and aims, offers, and power.
 
-use super::{one_cluster, plays_whole, two_clusters};
-use crate::{first_unlike, read_lines};
-use plain_cluster::PlainCluster;
+use super::{FAR_CLUSTERS, ONE_CLUSTER, TWO_CLUSTERS, plays_whole, replays, text};
 use std::test::Fail;
 
 // A bound thread stays in its cluster and is not offered. The second cluster works at two fifths of
@@ -21,7 +19,7 @@ fn bound_threads(rt: HostRuntime) -> Result<(), Fail> {
         "0 1 offer 0 = got 1",
         "5000 1 ran 5000 = work 2000",
     ];
-    plays_whole(&rt, rt.alloc(), &two_clusters(&rt, 8000)?, &row)
+    plays_whole(&rt, rt.alloc(), TWO_CLUSTERS, &row)
 }
 
 // A thread aims at a cluster of less load where the difference is worth the weight of the edge.
@@ -40,7 +38,7 @@ fn aim(rt: HostRuntime) -> Result<(), Fail> {
         "0 0 aim = to 1",
         "0 0 enter 1 tail = pri 31",
     ];
-    plays_whole(&rt, rt.alloc(), &two_clusters(&rt, 8000)?, &row)?;
+    plays_whole(&rt, rt.alloc(), TWO_CLUSTERS, &row)?;
     let row = [
         "0 0 make 1 0 FG 31 - = ok",
         "0 0 enter 0 tail = pri 31",
@@ -54,7 +52,7 @@ fn aim(rt: HostRuntime) -> Result<(), Fail> {
         "0 0 aim = to 0",
         "0 0 enter 0 tail = pri 31",
     ];
-    plays_whole(&rt, rt.alloc(), &two_clusters(&rt, 20_000)?, &row)
+    plays_whole(&rt, rt.alloc(), FAR_CLUSTERS, &row)
 }
 
 // A thread that prefers the taker is offered first, then one of a bucket that may be stolen: UT.
@@ -75,7 +73,7 @@ fn offers(rt: HostRuntime) -> Result<(), Fail> {
         "0 0 offer 1 = -",
         "0 0 offer 0 = no OwnCluster",
     ];
-    plays_whole(&rt, rt.alloc(), &two_clusters(&rt, 8000)?, &row)
+    plays_whole(&rt, rt.alloc(), TWO_CLUSTERS, &row)
 }
 
 // The entry that is pulled has others before and behind it, and those are offered in their order.
@@ -94,7 +92,7 @@ fn pulled_from_the_middle(rt: HostRuntime) -> Result<(), Fail> {
         "0 1 end = ok",
         "0 1 offer 0 = got 3",
     ];
-    plays_whole(&rt, rt.alloc(), &two_clusters(&rt, 8000)?, &row)
+    plays_whole(&rt, rt.alloc(), TWO_CLUSTERS, &row)
 }
 
 // A cluster that is off gives up what it has, and is not aimed at.
@@ -114,7 +112,7 @@ fn off_and_on(rt: HostRuntime) -> Result<(), Fail> {
         "0 0 on 0 = ok",
         "0 0 offer 1 = got 1",
     ];
-    plays_whole(&rt, rt.alloc(), &two_clusters(&rt, 8000)?, &row)
+    plays_whole(&rt, rt.alloc(), TWO_CLUSTERS, &row)
 }
 
 // The only cluster takes threads while it is off, and serves them once it is on.
@@ -129,7 +127,7 @@ fn off_alone(rt: HostRuntime) -> Result<(), Fail> {
         "0 0 on 0 = ok",
         "0 0 select = got 1",
     ];
-    plays_whole(&rt, rt.alloc(), &one_cluster(&rt, 8)?, &row)
+    plays_whole(&rt, rt.alloc(), ONE_CLUSTER, &row)
 }
 
 // A step takes place no earlier than the last of its actor and the last of its place. A refused
@@ -142,13 +140,14 @@ fn moments(rt: HostRuntime) -> Result<(), Fail> {
         "100 0 select = -",
         "100 1 offer 0 = -",
     ];
-    let mut lines = read_lines(rt.alloc(), &row)?;
-    lines[2].step.moment = 50;
-    lines[3].step.moment = 50;
-    let setup = two_clusters(&rt, 8000)?;
-    assert_eq!(rt;
-        first_unlike::<PlainCluster>(rt.alloc(), &setup, &lines)?,
-        None
-    );
-    Ok(())
+    let asked = [
+        "100 0 select = -",
+        "200 0 end = no HandEmpty",
+        "50 0 select = -",
+        "50 1 offer 0 = -",
+    ];
+    let input = text(rt.alloc(), TWO_CLUSTERS, &asked)?;
+    let output = text(rt.alloc(), TWO_CLUSTERS, &row)?;
+    replays(&rt, rt.alloc(), &input, &output)?;
+    plays_whole(&rt, rt.alloc(), TWO_CLUSTERS, &row)
 }
