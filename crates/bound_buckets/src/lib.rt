@@ -1,5 +1,17 @@
 //! Scores of bound units, and whether the user interface goes before all timeshare lanes.
 //!
+//! Whether a lane of the user interface goes first (a caller in the tests):
+//!
+//! ```
+//! let tops = Tops {
+//!     ui,
+//!     ui_bound,
+//!     fg,
+//!     fg_bound,
+//! };
+//! assert_eq!(rt; above_ui(&tops), expected); // such as `Some(false)` where only `ui` is there
+//! ```
+//!
 //! No call here takes memory or refuses.
 #![tactic(auto)]
 

@@ -1,5 +1,13 @@
 //! Tables of numbers, the times of version 1, and macros that go through buckets and lanes.
 //!
+//! A table of numbers, written and read (a caller in the tests):
+//!
+//! ```
+//! let mut table = Table::<MOST_CLUSTERS, 18>::filled(7);
+//! table.set(0, 17, 1);
+//! table.set_row(3, [9; 18]); // `table.get(3, 17)` is 9 then, and `table.get(2, 17)` still 7
+//! ```
+//!
 //! All times are whole microseconds. No call here takes memory or refuses.
 #![tactic(auto)]
 

@@ -1,5 +1,15 @@
 //! What histories of clusters and actors come to together: laws of journals and logs whose lines are put into one
 //! order. Each law is the contract of a function that does nothing but name the laws that it rests on.
+//!
+//! A function rests on a law by calling it, as here `totals_are_those_made`:
+//!
+//! ```
+//! pub fn totals_are_those_made()
+//!     ensures { TotalsAreThoseMade }
+//! {
+//!     joined_runs_are_histories();
+//! }
+//! ```
 #![tactic(auto)]
 
 ghost use Rattle.composition.specs.Laws.{FinishedRunsAreWhole, JoinedRunsAreHistories, SpotsAreTheSetups, TotalsAreThoseMade};

@@ -1,5 +1,14 @@
 //! The edges between clusters as tables, and what they allow.
 //!
+//! The edges of a setup with two clusters, and who may enter (a caller in the tests):
+//!
+//! ```
+//! let setup = two_clusters(rt.alloc())?;
+//! let edges = Edges::of(&setup);
+//! let bound = facts(Bucket::Ut, Some(0), 0);
+//! // `edges.may_enter(&bound, 0)` is true, and `edges.may_enter(&bound, 1)` false
+//! ```
+//!
 //! No call here takes memory or refuses.
 #![tactic(auto)]
 

@@ -1,6 +1,16 @@
 //! What the threads of a group and bucket used and for how long they were blocked, and the score
 //! that follows from it.
 //!
+//! Spans are added, and give a score (a caller in the tests):
+//!
+//! ```
+//! let mut stats = Stats::new();
+//! for (ran, blocked) in spans {
+//!     stats.add(*ran, *blocked);
+//! }
+//! // after 3000 run and 10000 blocked, `stats.score(Bucket::Fg)` is 13
+//! ```
+//!
 //! All times are whole microseconds. No call here takes memory or refuses.
 #![tactic(auto)]
 

@@ -1,4 +1,13 @@
 //! Where bytes come from and where they go: sources, sinks, and the means to test what stands on them.
+//!
+//! The lines of a source, one at a time (a caller in the tests of `line_feed`):
+//!
+//! ```
+//! let mut source = ByteSource::new(bytes, 5, fails);
+//! let mut feed = LineFeed::new(rt.alloc())?;
+//! assert_eq!(rt; feed.next(&mut source, 256), answer); // such as `Fed::Line`
+//! assert_eq!(rt; feed.line(), line);
+//! ```
 #![tactic(auto)]
 
 mod buffer;

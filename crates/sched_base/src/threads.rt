@@ -69,6 +69,13 @@ impl Thread {
         self.facts
     }
 
+    /// The facts of the thread, to be looked at where they lie.
+    pub fn as_facts(&self) -> &Facts
+        ensures { result.now ≡ self.now }
+    {
+        &self.facts
+    }
+
     /// Charges `us` microseconds of running at `rate` thousandths of a unit of work for each.
     /// Usage and the pending run span grow by `us`, and the work by `us * rate / 1000`, rounded
     /// down. Each stays at the greatest value of its type where the sum exceeds it.

@@ -1,4 +1,12 @@
 //! The setup line: read and written, as JSON.
+//!
+//! A setup is read, and written in its one canonical form (a caller in the tests):
+//!
+//! ```
+//! let setup = read_setup(rt.alloc(), line.as_bytes())?;
+//! let written = write_setup(rt.alloc(), &setup)?;
+//! assert_eq!(rt; written.as_slice(), text.as_bytes());
+//! ```
 #![tactic(auto)]
 
 mod fault;

@@ -1,5 +1,12 @@
 //! One history out of many: journals and logs put together into one list of lines.
 //!
+//! Journals of the clusters and logs of the actors become one history (a caller in the tests):
+//!
+//! ```
+//! let history = stitch(alloc, journals, logs)?;
+//! Ok(Some(listed(alloc, &history)?))
+//! ```
+//!
 //! Memory is taken for the answer alone.
 #![tactic(auto)]
 

@@ -1,5 +1,12 @@
 //! How a thread's usage decays, and how it lowers the thread's priority.
 //!
+//! Usage decays, and lowers a priority (callers in the tests):
+//!
+//! ```
+//! assert_eq!(rt; decay(usage, from, to), left); // such as 32000 from 32000 to 125000, which leaves 20000
+//! assert_eq!(rt; priority(base, bucket, usage, n), expected); // and 29 of a base of 31 with a usage of 32000
+//! ```
+//!
 //! All times are whole microseconds. No call here takes memory or refuses.
 #![tactic(auto)]
 

@@ -1,4 +1,13 @@
 //! The lines of traces and runs, read and written. Only `Page::new` takes memory.
+//!
+//! The line of a step with its answer, written into a buffer (a caller in the tests):
+//!
+//! ```
+//! let mut out = LineOut::new();
+//! write_step(&mut out, &MAKE);
+//! write_answer(&mut out, &Answer::Work(u64::MAX));
+//! // `out.bytes()` is `1099511627775 15 make 4294967295 63 IN 127 15 = work 18446744073709551615` and a newline
+//! ```
 #![tactic(auto)]
 
 mod acts;

@@ -1,5 +1,14 @@
 //! Warps and starvation windows of the timeshare lanes, and the lane that they choose.
 //!
+//! The foreground passes the background while its warp lasts (a caller in the tests):
+//!
+//! ```
+//! let mut windows = Windows::new(with_warp(8000));
+//! windows.fill(BG, 0);
+//! windows.fill(FG, 260_000);
+//! assert_eq!(rt; select(&rt, &mut windows, 260_000), (FG, Kind::Pass));
+//! ```
+//!
 //! Moments, deadlines and times are whole microseconds. No call here takes memory or refuses.
 #![tactic(auto)]
 
