@@ -1,0 +1,8 @@
+pub mod Held
+pub mod Changes
+pub mod Pushed
+pub mod PushedEntries
+pub mod Removed
+pub mod RemovedEntries
+pub mod Best
+pub mod Stays

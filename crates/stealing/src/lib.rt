@@ -1,0 +1,6 @@
+//! The heaps of foreign threads: who goes first among those that prefer another cluster.
+#![tactic(auto)]
+
+mod foreign;
+
+pub use foreign::Foreign;
