@@ -11,19 +11,19 @@ use Rattle.pairing_heap.specs.Heap.{Holds, Stands, key_of_value, pairs_at, times
 use Rattle.pairing_heap.specs.Laws.{FirstIsLeast, HeldAreLive}
 use Rattle.thread_queue.specs.Item.{entry_of, foreign_key_of_item, foreign_precedes}
 use Rattle.thread_queue.specs.declared.item.Item.{Item}
-use Rattle.stealing.specs.Foreign.{HasSlot, IsBest, OffersEntries, Roots, heap_of, wanting}
+use Rattle.stealing.specs.Foreign.{HasSlot, IsBest, OffersEntries, Roots, StandsIn, heap_of, wanting}
 use Rattle.stealing.proofs.Held.{item_held}
 
 -- the root of a heap is one of its slots
-root_held : FirstIsLeast 1 foreign_key_of_item foreign_precedes → (arena : Arena Item) (root slot : ℕ) (heap : Option ℕ) → Stands 1 foreign_key_of_item foreign_precedes arena heap → heap ≡ Some slot → Holds 1 foreign_key_of_item arena heap slot
-root_held least arena root slot heap stands is =
+root_held : FirstIsLeast 1 foreign_key_of_item foreign_precedes → (arena : Arena Item) (slot : ℕ) (heap : Option ℕ) → Stands 1 foreign_key_of_item foreign_precedes arena heap → heap ≡ Some slot → Holds 1 foreign_key_of_item arena heap slot
+root_held least arena slot heap stands is =
     let first = least arena (Some slot) (subst (λ (h : Option ℕ). Stands 1 foreign_key_of_item foreign_precedes arena h) is stands) in
     subst (λ (h : Option ℕ). Holds 1 foreign_key_of_item arena h slot) (sym is) first.held
 
 -- where a heap has no root, it has no slot
-none_held : FirstIsLeast 1 foreign_key_of_item foreign_precedes → (arena : Arena Item) (slot : ℕ) (heap : Option ℕ) → Stands 1 foreign_key_of_item foreign_precedes arena heap → heap ≡ None → Holds 1 foreign_key_of_item arena heap slot → ⊥
+pub none_held : FirstIsLeast 1 foreign_key_of_item foreign_precedes → (arena : Arena Item) (slot : ℕ) (heap : Option ℕ) → Stands 1 foreign_key_of_item foreign_precedes arena heap → heap ≡ None → Holds 1 foreign_key_of_item arena heap slot → ⊥
 none_held least arena slot heap stands is held =
-    let empty = (least arena heap stands).none.0 (subst (λ (h : Option ℕ). IsNone h) (sym is) tt) in
+    let empty = (least arena heap stands).none.0 (subst (λ (h : Option ℕ). IsNone h) (sym is) refl) in
     let zero = ap (λ pairs. times_of pairs slot) empty in
     omega (arith, held, zero)
 
@@ -38,7 +38,7 @@ none_wanted least arena foreign entries to lt offers is =
 
 pub best_is : HeldAreLive 1 foreign_key_of_item foreign_precedes → FirstIsLeast 1 foreign_key_of_item foreign_precedes → (arena : Arena Item) (foreign : Roots) (entries : List Queued) (to slot : ℕ) → to < most_clusters → OffersEntries arena foreign entries → heap_of foreign to ≡ Some slot → IsBest arena foreign to entries slot
 best_is live least arena foreign entries to slot lt offers is =
-    let held = root_held least arena slot slot (heap_of foreign to) (offers.stands.heaps to) is in
+    let held = root_held least arena slot (heap_of foreign to) (offers.stands.heaps to) is in
     let item = item_held live arena foreign offers.stands to slot held in
     let top = entry_of item.0 in
     let keyed = λ (o : Option Item). key_of_value foreign_key_of_item o in
@@ -62,8 +62,12 @@ pub best_where : HeldAreLive 1 foreign_key_of_item foreign_precedes → FirstIsL
 best_where live least arena foreign entries to None lt is offers = tt
 best_where live least arena foreign entries to (Some slot) lt is offers = best_is live least arena foreign entries to slot lt offers (sym is)
 
+pub held_where : FirstIsLeast 1 foreign_key_of_item foreign_precedes → (arena : Arena Item) (foreign : Roots) (to : ℕ) (result : Option ℕ) → result ≡ heap_of foreign to → StandsIn arena foreign → IfSome result (λ slot. HasSlot arena foreign to slot)
+held_where least arena foreign to None is stands = tt
+held_where least arena foreign to (Some slot) is stands = root_held least arena slot (heap_of foreign to) (stands.heaps to) (sym is)
+
 pub none_where : HeldAreLive 1 foreign_key_of_item foreign_precedes → FirstIsLeast 1 foreign_key_of_item foreign_precedes → (arena : Arena Item) (foreign : Roots) (entries : List Queued) (to : ℕ) (result : Option ℕ) → to < most_clusters → result ≡ heap_of foreign to → OffersEntries arena foreign entries → IsNone result ↔ (wanting to entries ≡ [])
-none_where live least arena foreign entries to None lt is offers = (λ _. none_wanted least arena foreign entries to lt offers (sym is), λ _. tt)
+none_where live least arena foreign entries to None lt is offers = (λ _. none_wanted least arena foreign entries to lt offers (sym is), λ _. refl)
 none_where live least arena foreign entries to (Some slot) lt is offers =
     let best = best_is live least arena foreign entries to slot lt offers (sym is) in
     (λ some. absurd (cc), λ empty. absurd (contains_none (entry_of best.item) (subst (λ (es : List Queued). Contains es (entry_of best.item)) empty best.first.member)))

@@ -1,5 +1,6 @@
 -- The heaps share no slot, since an item prefers one cluster only.
-use Rattle.std.proofs.Common.{◌≡◌, ◌≢◌, ◌⊎◌, ℕ, zero, suc, ◌<◌, ◌==◌, true, Option, Some, None, IsSome, refl, sym, ◌∙◌, inl, inr, arith, eqb-true}
+use Rattle.std.proofs.Common.{◌≡◌, ◌≢◌, ◌⊎◌, ℕ, zero, suc, ◌<◌, ◌==◌, true, Option, Some, None, IsSome, [], ◌∷◌, length, refl, sym, ◌∙◌, inl, inr, arith, eqb-true}
+use Rattle.std.specs.Prelude.{slice_index_or}
 use Rattle.std.proofs.lemmas.Bool.{and_parts}
 use Rattle.sched_base.specs.declared.Facts.{Facts}
 use Rattle.flat_policy.specs.Policy.Offer.{is_unbound, prefers}
@@ -20,6 +21,12 @@ item_at arena slot live = item_from_some (value_at arena slot) live
 pub zero_or_some : (n : ℕ) → (n ≡ 0) ⊎ (0 < n)
 zero_or_some zero = inl refl
 zero_or_some (suc n) = inr (omega arith)
+
+-- the root at a place of the list, whatever is given for places past its end
+pub root_at : (foreign : Roots) (to : ℕ) (other : Option ℕ) → to < length foreign → slice_index_or foreign to other ≡ heap_of foreign to
+root_at [] to other lt = absurd (omega (arith, lt))
+root_at (r ∷ foreign) zero other lt = refl
+root_at (r ∷ foreign) (suc to) other lt = root_at foreign to other (omega (arith, lt))
 
 -- the item at a slot of a heap
 pub item_held : HeldAreLive 1 foreign_key_of_item foreign_precedes → (arena : Arena Item) (foreign : Roots) → StandsIn arena foreign → (to slot : ℕ) → HasSlot arena foreign to slot → (item : Item) × (value_at arena slot ≡ Some item)

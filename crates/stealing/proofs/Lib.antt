@@ -6,3 +6,6 @@ pub mod Removed
 pub mod RemovedEntries
 pub mod Best
 pub mod Stays
+pub mod Changed
+pub mod Clearing
+pub mod ClearingOn

@@ -35,18 +35,18 @@ prefers_own item foreign =
 one_more : (slot other after before : ℕ) → after ≡ (if slot == other then 1 else 0) + before → 0 < after → (other ≡ slot) ⊎ (0 < before)
 one_more slot other after before is some = elim (cases_Bool (slot == other)) [
   | inl same ↦ inl (sym (eqb-true slot other same))
-  | inr unlike ↦ inr (subst (λ (n : ℕ). 0 < n) (is ∙ ap (λ b. (if b then 1 else 0) + before) unlike) some)
+  | inr unlike ↦ inr (let more = is ∙ ap (λ b. (if b then 1 else 0) + before) unlike in omega (arith, more, some))
 ]
 
 -- a slot of a heap after the push is the slot that came, or was there
-held_before : (old new : Arena Item) (foreign later : Roots) (slot : ℕ) (item : Item) → Comes old new foreign later slot item → (to other : ℕ) → HasSlot new later to other → (other ≡ slot) ⊎ HasSlot old foreign to other
+pub held_before : (old new : Arena Item) (foreign later : Roots) (slot : ℕ) (item : Item) → Comes old new foreign later slot item → (to other : ℕ) → HasSlot new later to other → (other ≡ slot) ⊎ HasSlot old foreign to other
 held_before old new foreign later slot item comes to other held = elim (cases_eq to item.thread.prefer) [
   | inl is ↦ subst (λ (n : ℕ). (other ≡ slot) ⊎ HasSlot old foreign n other) (sym is)
       (one_more slot other _ _ (comes.here other) (subst (λ (n : ℕ). HasSlot new later n other) is held))
   | inr unlike ↦ inr (subst (λ (n : ℕ). 0 < n) (comes.others to unlike other) held)
 ]
 
-held_after : (old new : Arena Item) (foreign later : Roots) (slot : ℕ) (item : Item) → Comes old new foreign later slot item → (to other : ℕ) → HasSlot old foreign to other → HasSlot new later to other
+pub held_after : (old new : Arena Item) (foreign later : Roots) (slot : ℕ) (item : Item) → Comes old new foreign later slot item → (to other : ℕ) → HasSlot old foreign to other → HasSlot new later to other
 held_after old new foreign later slot item comes to other held = elim (cases_eq to item.thread.prefer) [
   | inl is ↦ subst (λ (n : ℕ). HasSlot new later n other) (sym is)
       (let before : 0 < times_in old foreign item.thread.prefer other = subst (λ (n : ℕ). HasSlot old foreign n other) is held in

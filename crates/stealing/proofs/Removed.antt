@@ -35,9 +35,9 @@ held_on old new foreign later slot item goes to other unlike held = elim (cases_
   | inl is ↦ subst (λ (n : ℕ). HasSlot new later n other) (sym is)
       (elim (cases_Bool (slot == other)) [
         | inl same ↦ absurd (unlike (sym (eqb-true slot other same)))
-        | inr apart_from ↦ subst (λ (n : ℕ). 0 < n)
-            (goes.here other ∙ ap (λ b. (if b then 1 else 0) + times_in new later item.thread.prefer other) apart_from)
-            (subst (λ (n : ℕ). HasSlot old foreign n other) is held)
+        | inr apart_from ↦ (let more = goes.here other ∙ ap (λ b. (if b then 1 else 0) + times_in new later item.thread.prefer other) apart_from in
+            let before : 0 < times_in old foreign item.thread.prefer other = subst (λ (n : ℕ). HasSlot old foreign n other) is held in
+            omega (arith, more, before))
       ])
   | inr elsewhere ↦ subst (λ (n : ℕ). 0 < n) (sym (goes.others to elsewhere other)) held
 ]

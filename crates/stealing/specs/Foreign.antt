@@ -1,5 +1,6 @@
 -- What contracts say of the heaps of foreign threads: with their arena, they are eight heaps of slots, one for each cluster.
-use Rattle.std.specs.Prelude.{Contains, List, None, Option, Some, filter, if◌then◌else◌, length, map, slice_index_or, sum, true, ℕ, ◌+◌, ◌<◌, ◌==◌, ◌≡◌, ◌≢◌}
+use Rattle.std.specs.Prelude.{Contains, List, None, Option, Some, filter, if◌then◌else◌, length, slice_index_or, true, ℕ, ◌+◌, ◌<◌, ◌==◌, ◌≡◌, ◌≢◌}
+use Rattle.std.specs.List.{sum_by}
 use Rattle.sched_base.specs.Limits.{most_clusters}
 use Rattle.sched_base.specs.declared.Facts.{Facts}
 use Rattle.flat_policy.specs.Laws.Choice.{OrdersMembers}
@@ -25,11 +26,15 @@ times_in arena foreign to slot = times_of (pairs_at 1 foreign_key_of_item arena 
 
 -- how often a slot stands in all the heaps
 abbrev pub times_anywhere : Arena Item → Roots → ℕ → ℕ
-times_anywhere arena foreign slot = sum (map (λ root. times_of (pairs_at 1 foreign_key_of_item arena root) slot) foreign)
+times_anywhere arena foreign slot = sum_by (λ root. times_of (pairs_at 1 foreign_key_of_item arena root) slot) foreign
 
 -- the slot stands in the heap of those that prefer the cluster
 abbrev pub HasSlot : Arena Item → Roots → ℕ → ℕ → Type 0
 HasSlot arena foreign to slot = Holds 1 foreign_key_of_item arena (heap_of foreign to) slot
+
+-- the slot stands in one of the heaps
+abbrev pub IsHeld : Arena Item → Roots → ℕ → Type 0
+IsHeld arena foreign slot = (to : ℕ) × HasSlot arena foreign to slot
 
 -- the slot stands in none of the heaps
 abbrev pub LacksSlot : Arena Item → Roots → ℕ → Type 0

@@ -1,11 +1,12 @@
-ghost use Rattle.std.specs.Prelude.{◌≡◌, ◌<◌, ◌≤◌, ◌↔◌, ℕ, Some, None, IsNone, IfSome, List, [], ◌∷◌, ◌++◌, replicate};
+ghost use Rattle.std.specs.Prelude.{◌≡◌, ◌+◌, ◌<◌, ◌≤◌, ◌↔◌, ℕ, Some, None, IsNone, IfSome, List, [], ◌∷◌, ◌++◌, replicate};
 ghost use Rattle.flat_policy.specs.Policy.Moves.{without};
 ghost use Rattle.flat_policy.specs.Policy.Queue.{Queued};
 ghost use Rattle.link_arena.specs.Arena.{Arena as Map, IsLive, value_at};
 ghost use Rattle.pairing_heap.specs.Laws.{AddedStaysApart, AddsOneSlot, FirstIsLeast, HeldAreLive, StandsWhenEmpty, StaysWhereCleared, TakenIsLacked, TakenStaysApart, TakesOneSlot};
 ghost use Rattle.thread_queue.specs.Item.{entry_of, foreign_key_of_item, foreign_precedes};
 ghost use Rattle.thread_queue.specs.declared.item.Item.{Item as Stored};
-ghost use Rattle.stealing.specs.Foreign.{Clears, HasSlot, IsBest, IsForeign, IsNewArrival, LacksSlot, OffersEntries, Pushes, Removes, StandsIn, heap_of, wanting};
+ghost use Rattle.stealing.specs.Foreign.{Clears, HasSlot, IsBest, IsForeign, IsHeld, IsNewArrival, LacksSlot, OffersEntries, Pushes, Removes, StandsIn, heap_of, wanting};
+ghost use Rattle.stealing.specs.Clearing.{ClearsOne};
 
 use link_arena::Arena;
 use pairing_heap::{Heap, Steps, laws as heaps};
@@ -68,12 +69,11 @@ impl Foreign {
         self.heaps[to as usize].push(arena, slot, steps);
     }
 
-    /// Takes a slot out of the heap of its thread's preferred cluster, from anywhere. Its links of set 1 lead nowhere then.
+    /// Takes a slot out of the heap that has it, which is that of its thread's preferred cluster, from anywhere. Its links of
+    /// set 1 lead nowhere then.
     pub fn remove<L: Ledger>(&mut self, arena: &mut Arena<Item>, slot: u32, steps: &mut Steps<L>)
         requires stands { StandsIn arena.old self.old }
-        requires live { IsLive arena.old slot }
-        requires foreign { (item : Stored) → value_at arena.old slot ≡ Some item → IsForeign item.thread }
-        requires held { (item : Stored) → value_at arena.old slot ≡ Some item → HasSlot arena.old self.old item.thread.prefer slot }
+        requires held { IsHeld arena.old self.old slot }
         ensures removes { Removes arena.old arena.new self.old self.new slot }
         ensures entries { (entries : List Queued) (item : Stored) → value_at arena.old slot ≡ Some item → OffersEntries arena.old self.old entries → OffersEntries arena.new self.new (without item.arrival entries) }
         ensures ticks { steps.old ≤ steps.new }
@@ -89,10 +89,37 @@ impl Foreign {
         requires { to < MOST_CLUSTERS }
         ensures root { result ≡ heap_of self.now to }
         ensures none { (arena : Map Stored) (entries : List Queued) → OffersEntries arena self.now entries → IsNone result ↔ (wanting to entries ≡ []) }
+        ensures held { (arena : Map Stored) → StandsIn arena self.now → IfSome result (λ slot. HasSlot arena self.now to slot) }
         ensures best { (arena : Map Stored) (entries : List Queued) → OffersEntries arena self.now entries → IfSome result (λ slot. IsBest arena self.now to entries slot) }
     {
         heap_laws();
         self.heaps[to as usize].peek()
+    }
+
+    /// Takes all slots out of all heaps. The links of set 1 of these slots lead nowhere then; items, links of set 0, and links
+    /// of all other slots stay. Nothing is compared.
+    pub fn clear<L: Ledger>(&mut self, arena: &mut Arena<Item>, steps: &mut Steps<L>)
+        requires { StandsIn arena.old self.old }
+        ensures empty { self.new ≡ replicate MOST_CLUSTERS None }
+        ensures clears { Clears arena.old arena.new self.old }
+        ensures offers { OffersEntries arena.new self.new [] }
+        ensures steps { steps.new ≡ steps.old }
+    {
+        heap_laws();
+        for to in 0..MOST_CLUSTERS {
+            self.clear_one(arena, to);
+        }
+        let _steps = &*steps;
+    }
+
+    // Takes all slots out of one cluster's heap.
+    fn clear_one(&mut self, arena: &mut Arena<Item>, to: usize)
+        requires stands { StandsIn arena.old self.old }
+        requires cluster { to < MOST_CLUSTERS }
+        ensures { ClearsOne arena.old arena.new self.old self.new to }
+    {
+        heap_laws();
+        self.heaps[to].clear(arena);
     }
 }
 

@@ -2,5 +2,6 @@
 #![tactic(auto)]
 
 mod foreign;
+pub mod laws;
 
 pub use foreign::Foreign;

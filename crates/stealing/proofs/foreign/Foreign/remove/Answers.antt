@@ -1,4 +1,4 @@
 use Rattle.stealing.proofs.foreign.Foreign.remove.Goals as goal
 
-pub returns : goal.returns
-returns c = ?
+pub goal-x : goal.goal-x
+goal-x c = ?
