@@ -54,7 +54,7 @@ pub stays_reserved : HeapStaysWhere 1 foreign_key_of_item foreign_precedes → S
 stays_reserved law old new map foreign stands =
     stays law old new foreign stands record { values = λ to slot held. map.values slot; links = λ to slot held. map.links 1 slot }
 
-one_is_not_zero : 1 ≢ 0
+one_is_not_zero : ◌≢◌ {A = ℕ} 1 0
 one_is_not_zero h = absurd (omega (arith, h))
 
 pub stays_beside : HeapStaysWhere 1 foreign_key_of_item foreign_precedes → StaysWhereQueuesChange

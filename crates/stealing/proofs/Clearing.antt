@@ -19,7 +19,7 @@ use Rattle.stealing.proofs.Held.{apart, zero_or_some}
 
 -- an empty heap has no slot
 pub none_there : FirstIsLeast 1 foreign_key_of_item foreign_precedes → StandsWhenEmpty 1 foreign_key_of_item foreign_precedes → (arena : Arena Item) (foreign : Roots) (to slot : ℕ) → heap_of foreign to ≡ None → HasSlot arena foreign to slot → ⊥
-pub none_there least empty arena foreign to slot is held =
+none_there least empty arena foreign to slot is held =
     none_held least arena slot (heap_of foreign to)
     (subst (λ (r : Option ℕ). Stands 1 foreign_key_of_item foreign_precedes arena r) (sym is) (empty (lit< tt) arena)) is held
 

@@ -1,7 +1,8 @@
 -- The heaps share no slot, since an item prefers one cluster only.
-use Rattle.std.proofs.Common.{◌≡◌, ◌≢◌, ◌⊎◌, ℕ, zero, suc, ◌<◌, ◌==◌, true, Option, Some, None, IsSome, [], ◌∷◌, length, refl, sym, ◌∙◌, inl, inr, arith, eqb-true}
+use Rattle.std.proofs.Common.{◌≡◌, ◌≢◌, ◌⊎◌, ℕ, zero, suc, ◌<◌, ◌==◌, true, Option, Some, None, IsSome, [], ◌∷◌, length, refl, sym, ap, ◌∙◌, inl, inr, arith, eqb-true}
 use Rattle.std.specs.Prelude.{slice_index_or}
 use Rattle.std.proofs.lemmas.Bool.{and_parts}
+use Rattle.sched_base.specs.Limits.{most_clusters}
 use Rattle.sched_base.specs.declared.Facts.{Facts}
 use Rattle.flat_policy.specs.Policy.Offer.{is_unbound, prefers}
 use Rattle.link_arena.specs.Arena.{Arena, IsLive, value_at}
@@ -27,6 +28,12 @@ pub root_at : (foreign : Roots) (to : ℕ) (other : Option ℕ) → to < length 
 root_at [] to other lt = absurd (omega (arith, lt))
 root_at (r ∷ foreign) zero other lt = refl
 root_at (r ∷ foreign) (suc to) other lt = root_at foreign to other (omega (arith, lt))
+
+-- the root at a place of the fields' list
+pub root_of_index : (foreign heaps : Roots) (to : ℕ) (other : Option ℕ) → heaps ≡ foreign → length foreign ≡ most_clusters → to < most_clusters → slice_index_or heaps to other ≡ heap_of foreign to
+root_of_index foreign heaps to other is eight lt =
+    let within : to < length foreign = omega (arith, eight, lt) in
+    ap (λ (roots : Roots). slice_index_or roots to other) is ∙ root_at foreign to other within
 
 -- the item at a slot of a heap
 pub item_held : HeldAreLive 1 foreign_key_of_item foreign_precedes → (arena : Arena Item) (foreign : Roots) → StandsIn arena foreign → (to slot : ℕ) → HasSlot arena foreign to slot → (item : Item) × (value_at arena slot ≡ Some item)

@@ -38,6 +38,13 @@ impl Foreign {
         ensures offers { (arena : Map Stored) → OffersEntries arena result [] }
     {
         heap_laws();
+        Foreign::without_slots()
+    }
+
+    // Eight heaps with no slot.
+    fn without_slots() -> Foreign
+        ensures { result ≡ replicate MOST_CLUSTERS None }
+    {
         Foreign {
             heaps: [
                 Heap::new(),
