@@ -6,6 +6,8 @@ pub mod Removed
 pub mod RemovedEntries
 pub mod Best
 pub mod Stays
+pub mod Pushing
+pub mod Removing
 pub mod Changed
 pub mod Clearing
 pub mod ClearingOn

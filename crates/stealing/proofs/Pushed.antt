@@ -8,7 +8,7 @@ use Rattle.flat_policy.specs.Policy.Offer.{is_unbound, prefers}
 use Rattle.flat_policy.specs.Policy.Queue.{Queued}
 use Rattle.flat_policy.proofs.Members.{filter_has, member_of_filter}
 use Rattle.link_arena.specs.Arena.{Arena, IsLive, value_at}
-use Rattle.pairing_heap.specs.Heap.{AddsPair, pairs_at, times_of}
+use Rattle.pairing_heap.specs.Heap.{AddsPair, LinksOnly, pairs_at, times_of}
 use Rattle.pairing_heap.specs.Laws.{AddedStaysApart, AddsOneSlot, HeldAreLive}
 use Rattle.thread_queue.specs.Item.{entry_of, foreign_key_of_item, foreign_precedes}
 use Rattle.thread_queue.specs.declared.item.Item.{Item}
@@ -22,7 +22,7 @@ pub record Comes (old new : Arena Item) (foreign later : Roots) (slot : ℕ) (it
   pub stands : StandsIn new later
   pub here : (other : ℕ) → times_in new later item.thread.prefer other ≡ (if slot == other then 1 else 0) + times_in old foreign item.thread.prefer other
   pub others : (to : ℕ) → to ≢ item.thread.prefer → (other : ℕ) → times_in new later to other ≡ times_in old foreign to other
-  pub values : (other : ℕ) → value_at new other ≡ value_at old other
+  pub kept : LinksOnly 1 old new (times_in new later item.thread.prefer)
 
 pub some_is : (a b : Item) → Some a ≡ Some b → a ≡ b
 some_is a b h = cc
@@ -81,5 +81,5 @@ comes live one stay old new foreign slot item root stands is_live stored wants l
         ]);
       here = here;
       others = change.slots;
-      values = adds.kept.values;
+      kept = subst (λ (r : Option ℕ). LinksOnly 1 old new (times_of (pairs_at 1 foreign_key_of_item new r))) (sym (root_here foreign at root within)) adds.kept;
     }

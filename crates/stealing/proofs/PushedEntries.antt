@@ -14,7 +14,7 @@ use Rattle.stealing.proofs.Pushed.{Comes, held_after, held_before, held_itself, 
 -- what a slot holds after the push, by what the slot held before
 item_of_slot : (old new : Arena Item) (foreign later : Roots) (slot : ℕ) (item : Item) → Comes old new foreign later slot item → (other : ℕ) (thing : Item) → other ≡ slot → value_at new other ≡ Some thing → item ≡ thing
 item_of_slot old new foreign later slot item comes other thing is stored =
-    some_is item thing (sym comes.stored ∙ (sym (comes.values slot) ∙ (ap (λ (n : ℕ). value_at new n) (sym is) ∙ stored)))
+    some_is item thing (sym comes.stored ∙ (sym (comes.kept.values slot) ∙ (ap (λ (n : ℕ). value_at new n) (sym is) ∙ stored)))
 
 -- a slot that was there before is no slot of the arrival
 other_arrival : (arena : Arena Item) (foreign : Roots) (entries : List Queued) (item thing : Item) (to other : ℕ) → OffersEntries arena foreign entries → IsNewArrival entries item.arrival → HasSlot arena foreign to other → value_at arena other ≡ Some thing → thing.arrival ≡ item.arrival → ⊥
@@ -24,7 +24,7 @@ other_arrival arena foreign entries item thing to other offers fresh held stored
 pub offers_pushed : (old new : Arena Item) (foreign later : Roots) (slot : ℕ) (item : Item) → Comes old new foreign later slot item → (entries : List Queued) → IsNewArrival entries item.arrival → OffersEntries old foreign entries → OffersEntries new later (entries ++ entry_of item ∷ [])
 offers_pushed old new foreign later slot item comes entries fresh offers =
     let longer = entries ++ entry_of item ∷ [] in
-    let was = λ (other : ℕ) (thing : Item) (h : value_at new other ≡ Some thing). sym (comes.values other) ∙ h in
+    let was = λ (other : ℕ) (thing : Item) (h : value_at new other ≡ Some thing). sym (comes.kept.values other) ∙ h in
     record {
       stands = comes.stands;
       there = λ to other thing held stored.
@@ -41,10 +41,10 @@ offers_pushed old new foreign later slot item comes entries fresh offers =
           let m = member_of_filter p longer e c in
           elim (Contains-push_cases entries (entry_of item) e m.0) [
             | inl d ↦ (let b = offers.back to lt e (filter_has p entries e d m.1) in
-                (b.0, b.1, (held_after old new foreign later slot item comes to b.0 b.2.0, comes.values b.0 ∙ b.2.1, b.2.2)))
+                (b.0, b.1, (held_after old new foreign later slot item comes to b.0 b.2.0, comes.kept.values b.0 ∙ b.2.1, b.2.2)))
             | inr is ↦ (let wants : prefers to item.thread ≡ true = subst (λ (x : Queued). prefers to x.facts ≡ true) (sym is) m.1 in
                 let at = eqb-true item.thread.prefer to (and_parts (is_unbound item.thread) (item.thread.prefer == to) wants).1 in
-                (slot, item, (subst (λ (n : ℕ). HasSlot new later n slot) at (held_itself old new foreign later slot item comes), comes.values slot ∙ comes.stored, is)))
+                (slot, item, (subst (λ (n : ℕ). HasSlot new later n slot) at (held_itself old new foreign later slot item comes), comes.kept.values slot ∙ comes.stored, is)))
           ];
       once = λ to from one other thing rival held there stored kept same.
           elim (held_before old new foreign later slot item comes to one held) [

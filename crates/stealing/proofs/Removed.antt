@@ -3,8 +3,8 @@ use Rattle.std.proofs.Common.{◌≡◌, ◌≢◌, ℕ, ◌+◌, ◌<◌, ◌==
 use Rattle.std.specs.Prelude.{if◌then◌else◌, slice_set}
 use Rattle.std.proofs.lemmas.Bool.{cases_Bool, cases_eq}
 use Rattle.flat_policy.specs.Policy.Offer.{prefers}
-use Rattle.link_arena.specs.Arena.{Arena, value_at}
-use Rattle.pairing_heap.specs.Heap.{TakesPair, pairs_at, times_of}
+use Rattle.link_arena.specs.Arena.{Arena, links_at, unlinked, value_at}
+use Rattle.pairing_heap.specs.Heap.{LinksOnly, TakesPair, pairs_at, times_of}
 use Rattle.pairing_heap.specs.Laws.{HeldAreLive, TakenIsLacked, TakenStaysApart, TakesOneSlot}
 use Rattle.thread_queue.specs.Item.{foreign_key_of_item, foreign_precedes}
 use Rattle.thread_queue.specs.declared.item.Item.{Item}
@@ -20,7 +20,8 @@ pub record Goes (old new : Arena Item) (foreign later : Roots) (slot : ℕ) (ite
   pub here : (other : ℕ) → times_in old foreign item.thread.prefer other ≡ (if slot == other then 1 else 0) + times_in new later item.thread.prefer other
   pub others : (to : ℕ) → to ≢ item.thread.prefer → (other : ℕ) → times_in new later to other ≡ times_in old foreign to other
   pub lacks : LacksSlot new later slot
-  pub values : (other : ℕ) → value_at new other ≡ value_at old other
+  pub free : links_at new 1 slot ≡ unlinked
+  pub kept : LinksOnly 1 old new (times_in old foreign item.thread.prefer)
 
 pub held_still : (old new : Arena Item) (foreign later : Roots) (slot : ℕ) (item : Item) → Goes old new foreign later slot item → (to other : ℕ) → HasSlot new later to other → HasSlot old foreign to other
 held_still old new foreign later slot item goes to other held = elim (cases_eq to item.thread.prefer) [
@@ -67,5 +68,6 @@ goes live one stay lacked old new foreign slot item root stands stored within he
             (becomes slot ∙ lacked old new (heap_of foreign at) root slot (stands.heaps at) takes)
         | inr unlike ↦ change.slots to unlike slot ∙ share to unlike slot held
       ];
-      values = takes.kept.values;
+      free = takes.free;
+      kept = takes.kept;
     }

@@ -31,7 +31,7 @@ left_arrival old new foreign later slot item goes entries offers to other thing 
 pub offers_removed : (old new : Arena Item) (foreign later : Roots) (slot : ℕ) (item : Item) → Goes old new foreign later slot item → (entries : List Queued) → OffersEntries old foreign entries → OffersEntries new later (without item.arrival entries)
 offers_removed old new foreign later slot item goes entries offers =
     let q = λ (e : Queued). not (e.arrival == item.arrival) in
-    let was = λ (other : ℕ) (thing : Item) (h : value_at new other ≡ Some thing). sym (goes.values other) ∙ h in
+    let was = λ (other : ℕ) (thing : Item) (h : value_at new other ≡ Some thing). sym (goes.kept.values other) ∙ h in
     record {
       stands = goes.stands;
       there = λ to other thing held stored.
@@ -50,7 +50,7 @@ offers_removed old new foreign later slot item goes entries offers =
             test_unlike e.arrival item.arrival n.1
             (ap (λ (x : Queued). x.arrival) (sym b.2.2)
             ∙ ap (λ (i : Item). i.arrival) (some_is b.1 item (sym b.2.1 ∙ (ap (λ (k : ℕ). value_at old k) same ∙ goes.stored)))) in
-          (b.0, b.1, (held_on old new foreign later slot item goes to b.0 unlike b.2.0, goes.values b.0 ∙ b.2.1, b.2.2));
+          (b.0, b.1, (held_on old new foreign later slot item goes to b.0 unlike b.2.0, goes.kept.values b.0 ∙ b.2.1, b.2.2));
       once = λ to from one other thing rival held there stored kept same.
           offers.once to from one other thing rival
           (held_still old new foreign later slot item goes to one held)

@@ -3,5 +3,7 @@
 
 mod foreign;
 pub mod laws;
+#[cfg(test)]
+mod tests;
 
 pub use foreign::Foreign;

@@ -7,14 +7,14 @@ use Rattle.stealing.proofs.foreign.Foreign.best.Goals as goal
 pub returns-clause-none : goal.returns-clause-none
 returns-clause-none c = λ arena entries offers.
     let root = root_of_index c.args.self.now c.self.inside.heaps c.args.to c.index-self-to.result c.self.view_is offers.stands.eight c.requires in
-    none_where c.heap_laws.ensures.live c.heap_laws.ensures.first arena c.args.self.now entries c.args.to c.peek.result c.requires (c.peek.ensures ∙ (c.index-self-to.is ∙ root)) offers
+    none_where c.heap_laws.ensures.live c.heap_laws.ensures.first arena c.args.self.now entries c.args.to c.peek.result c.requires (c.peek.ensures ∙ root) offers
 
 pub returns-clause-held : goal.returns-clause-held
 returns-clause-held c = λ arena stands.
     let root = root_of_index c.args.self.now c.self.inside.heaps c.args.to c.index-self-to.result c.self.view_is stands.eight c.requires in
-    held_where c.heap_laws.ensures.first arena c.args.self.now c.args.to c.peek.result (c.peek.ensures ∙ (c.index-self-to.is ∙ root)) stands
+    held_where c.heap_laws.ensures.first arena c.args.self.now c.args.to c.peek.result (c.peek.ensures ∙ root) stands
 
 pub returns-clause-best : goal.returns-clause-best
 returns-clause-best c = λ arena entries offers.
     let root = root_of_index c.args.self.now c.self.inside.heaps c.args.to c.index-self-to.result c.self.view_is offers.stands.eight c.requires in
-    best_where c.heap_laws.ensures.live c.heap_laws.ensures.first arena c.args.self.now entries c.args.to c.peek.result c.requires (c.peek.ensures ∙ (c.index-self-to.is ∙ root)) offers
+    best_where c.heap_laws.ensures.live c.heap_laws.ensures.first arena c.args.self.now entries c.args.to c.peek.result c.requires (c.peek.ensures ∙ root) offers
