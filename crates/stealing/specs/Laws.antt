@@ -1,13 +1,14 @@
 -- What stays of the heaps of foreign threads where the arena or the list of entries changes.
-use Rattle.std.specs.Prelude.{Contains, List, Option, Some, true, ℕ, ◌<◌, ◌≡◌}
+use Rattle.std.specs.Prelude.{Contains, List, Some, [], true, ℕ, ◌<◌, ◌≡◌}
 use Rattle.sched_base.specs.Limits.{most_clusters}
 use Rattle.flat_policy.specs.Policy.Offer.{is_unbound, prefers}
 use Rattle.flat_policy.specs.Policy.Queue.{Queued}
 use Rattle.link_arena.specs.Arena.{Arena, Inserts, Removes as Frees, Revalues, SameMap, links_at, value_at}
 use Rattle.pairing_heap.specs.Heap.{LinksOnly}
 use Rattle.thread_queue.specs.Item.{entry_of}
+use Rattle.thread_queue.specs.Queue.{Queue, Settles}
 use Rattle.thread_queue.specs.declared.item.Item.{Item}
-use Rattle.stealing.specs.Foreign.{HasSlot, IsNewArrival, LacksSlot, OffersEntries, Roots, StandsIn, times_in}
+use Rattle.stealing.specs.Foreign.{HasSlot, IsNewArrival, LacksSlot, OffersEntries, Pushes, Roots, StandsIn, times_in}
 
 -- the heaps stand in the new arena too, with the same slots, and stand for the same entries
 pub record StaysIn (old new : Arena Item) (foreign : Roots) : Type 0 where
@@ -41,6 +42,12 @@ StaysWhereRemoved = (old new : Arena Item) (slot : ℕ) → Frees old new slot �
 abbrev pub StaysWhereRevalued : Type 0
 StaysWhereRevalued = (old new : Arena Item) (slot : ℕ) (item : Item) → Revalues old new slot item → (foreign : Roots) → StandsIn old foreign → LacksSlot old foreign slot → StaysWithout old new foreign slot
 
+-- the heaps stay where a slot that none of them has is settled in its queue
+abbrev pub StaysWhereSettled : Type 0
+StaysWhereSettled =
+    (old new : Arena Item) (queue later : Queue) (slot usage seen pri : ℕ) → Settles old new queue later slot usage seen pri
+    → (foreign : Roots) → StandsIn old foreign → LacksSlot old foreign slot → StaysWithout old new foreign slot
+
 -- the heaps stay where the arena gets room
 abbrev pub StaysWhereReserved : Type 0
 StaysWhereReserved = (old new : Arena Item) → SameMap old new → (foreign : Roots) → StandsIn old foreign → StaysIn old new foreign
@@ -57,6 +64,14 @@ pub record SameUnbound (entries later : List Queued) : Type 0 where
 -- the heaps stand for every list with the same unbound entries, in whatever order, as where a bound entry comes or goes
 abbrev pub OffersByUnbound : Type 0
 OffersByUnbound = (arena : Arena Item) (foreign : Roots) (entries later : List Queued) → SameUnbound entries later → OffersEntries arena foreign entries → OffersEntries arena foreign later
+
+-- the heap of its thread's preferred cluster has the slot that was pushed
+abbrev pub PushedIsHeld : Type 0
+PushedIsHeld = (old new : Arena Item) (foreign later : Roots) (slot : ℕ) → (pushes : Pushes old new foreign later slot) → HasSlot new later pushes.item.thread.prefer slot
+
+-- where the heaps stand for no entry, none of them has a slot
+abbrev pub LacksWhereNone : Type 0
+LacksWhereNone = (arena : Arena Item) (foreign : Roots) → OffersEntries arena foreign [] → (slot : ℕ) → LacksSlot arena foreign slot
 
 -- no heap has the slot of an item whose arrival is that of no entry
 abbrev pub LacksNewArrival : Type 0

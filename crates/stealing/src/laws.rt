@@ -1,6 +1,6 @@
 //! Laws of the heaps of foreign threads, for whatever holds an arena. Each is the contract of a function that does nothing.
 
-ghost use Rattle.stealing.specs.Laws.{HasListedSlot, LacksNewArrival, OffersByUnbound, StaysWhereInserted, StaysWhereQueuesChange, StaysWhereRemoved, StaysWhereReserved, StaysWhereRevalued, StaysWhereSlotsStay};
+ghost use Rattle.stealing.specs.Laws.{HasListedSlot, LacksNewArrival, LacksWhereNone, OffersByUnbound, PushedIsHeld, StaysWhereInserted, StaysWhereQueuesChange, StaysWhereRemoved, StaysWhereReserved, StaysWhereRevalued, StaysWhereSettled, StaysWhereSlotsStay};
 
 use pairing_heap::laws as heaps;
 use thread_queue::Item;
@@ -34,6 +34,13 @@ pub fn stays_where_revalued()
     heaps::stays_where_slots_stay::<Item, 1>();
 }
 
+/// The heaps stay where a slot that none of them has is settled in its queue.
+pub fn stays_where_settled()
+    ensures { StaysWhereSettled }
+{
+    heaps::stays_where_slots_stay::<Item, 1>();
+}
+
 /// The heaps stay where the arena gets room.
 pub fn stays_where_reserved()
     ensures { StaysWhereReserved }
@@ -52,6 +59,18 @@ pub fn stays_where_queues_change()
 pub fn offers_by_unbound()
     ensures { OffersByUnbound }
 {}
+
+/// The heap of its thread's preferred cluster has the slot that was pushed.
+pub fn pushed_is_held()
+    ensures { PushedIsHeld }
+{}
+
+/// Where the heaps stand for no entry, as after `clear`, none of them has a slot.
+pub fn lacks_where_none()
+    ensures { LacksWhereNone }
+{
+    heaps::held_are_live::<Item, 1>();
+}
 
 /// No heap has the slot of an item whose arrival is that of no entry.
 pub fn lacks_new_arrival()

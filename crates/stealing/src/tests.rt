@@ -3,7 +3,7 @@ ghost use Rattle.link_arena.specs.Arena.{IsLive};
 ghost use Rattle.stealing.specs.Foreign.{IsHeld, StandsIn};
 
 use crate::Foreign;
-use crate::laws::{stays_where_inserted, stays_where_reserved};
+use crate::laws::{pushed_is_held, stays_where_inserted, stays_where_reserved};
 use link_arena::{Arena, Links};
 use pairing_heap::Steps;
 use sched_base::{Bucket, Thread};
@@ -49,6 +49,7 @@ fn enter<R: Abort, L: Ledger>(
 {
     stays_where_reserved();
     stays_where_inserted();
+    pushed_is_held();
     assert!(rt; row.prefer < 8);
     arena.reserve().expect(rt, "room");
     let slot = arena.insert_reserved(item_of(row));
