@@ -1,13 +1,13 @@
 -- The root of a cluster's heap is the best of those that prefer the cluster.
 use Rattle.std.proofs.Common.{◌≡◌, ℕ, ◌<◌, false, Option, Some, None, IsNone, IfSome, List, [], ◌∷◌, Contains, ◌↔◌, refl, sym, ap, ◌∙◌, subst, arith}
 use Rattle.sched_base.specs.Limits.{most_clusters}
-use Rattle.flat_policy.specs.Policy.Offer.{foreign_before, prefers}
+use Rattle.flat_policy.specs.Policy.Offer.{foreign_before}
 use Rattle.flat_policy.specs.Policy.Queue.{Queued}
 use Rattle.flat_policy.specs.Policy.Unpreceded.{IsUnpreceded}
 use Rattle.flat_policy.proofs.Choice.{chosen_is}
 use Rattle.flat_policy.proofs.Members.{all_from_members, contains_here, contains_none}
-use Rattle.link_arena.specs.Arena.{Arena, value_at}
-use Rattle.pairing_heap.specs.Heap.{Holds, Stands, key_of_value, pairs_at, times_of}
+use Rattle.link_arena.specs.Arena.{Arena}
+use Rattle.pairing_heap.specs.Heap.{Holds, Stands, key_of_value, times_of}
 use Rattle.pairing_heap.specs.Laws.{FirstIsLeast, HeldAreLive}
 use Rattle.thread_queue.specs.Item.{entry_of, foreign_key_of_item, foreign_precedes}
 use Rattle.thread_queue.specs.declared.item.Item.{Item}

@@ -1,5 +1,5 @@
 -- The heaps stay where the arena changes elsewhere, and stand for each list with the same unbound entries.
-use Rattle.std.proofs.Common.{◌≡◌, ◌≢◌, ℕ, ◌<◌, ◌==◌, true, Some, None, IsSome, List, Contains, is_some, refl, sym, ap, ◌∙◌, subst, inl, inr, arith, eq-eqb}
+use Rattle.std.proofs.Common.{◌≡◌, ◌≢◌, ℕ, ◌==◌, Some, None, refl, sym, ap, ◌∙◌, subst, inl, inr, arith, eq-eqb}
 use Rattle.std.specs.Prelude.{if◌then◌else◌, ◌+◌}
 use Rattle.std.proofs.lemmas.Bool.{and_parts}
 use Rattle.flat_policy.specs.Policy.Offer.{is_unbound, prefers}
@@ -9,7 +9,7 @@ use Rattle.link_arena.specs.Arena.{Arena, value_at}
 use Rattle.pairing_heap.specs.Laws.{HeldAreLive, StaysWhereSlotsStay as HeapStaysWhere}
 use Rattle.thread_queue.specs.Item.{entry_of, foreign_key_of_item, foreign_precedes}
 use Rattle.thread_queue.specs.declared.item.Item.{Item}
-use Rattle.stealing.specs.Foreign.{HasSlot, LacksSlot, Roots, StandsIn, heap_of, times_in}
+use Rattle.stealing.specs.Foreign.{HasSlot, LacksSlot, Roots, StandsIn, times_in}
 use Rattle.stealing.specs.Laws.{HasListedSlot, LacksNewArrival, LacksWhereNone, OffersByUnbound, PushedIsHeld, StaysWhereInserted, StaysWhereQueuesChange, StaysWhereRemoved, StaysWhereReserved, StaysWhereRevalued, StaysWhereSettled}
 use Rattle.stealing.proofs.Held.{item_held, zero_or_some}
 use Rattle.stealing.proofs.Stays.{stays}

@@ -1,21 +1,18 @@
 -- One heap after another is cleared.
-use Rattle.std.proofs.Common.{◌≡◌, ◌≢◌, ℕ, zero, suc, ◌+◌, ◌<◌, ◌≤◌, Option, Some, None, List, [], ◌∷◌, Contains, length, refl, sym, ap, ap₂, ◌∙◌, subst, inl, inr, arith, lit<}
+use Rattle.std.proofs.Common.{◌≡◌, ℕ, zero, suc, ◌<◌, Option, None, [], ◌∷◌, length, refl, sym, ap₂, subst, arith, lit<}
 use Rattle.std.specs.Prelude.{replicate, slice_set}
-use Rattle.std.proofs.lemmas.Bool.{cases_eq, cases_lt}
-use Rattle.std.proofs.lemmas.List.{get_or-replicate, get_or_past}
-use Rattle.std.proofs.lemmas.List.Sums.{get_or-le-sum_by}
 use Rattle.sched_base.specs.Limits.{most_clusters}
 use Rattle.flat_policy.proofs.Members.{contains_none}
-use Rattle.link_arena.specs.Arena.{Arena, links_at, unlinked, value_at}
-use Rattle.pairing_heap.specs.Heap.{ClearsSlots, LinksOnly, Stands, pairs_at, times_of}
+use Rattle.link_arena.specs.Arena.{Arena}
+use Rattle.pairing_heap.specs.Heap.{ClearsSlots, Stands}
 use Rattle.pairing_heap.specs.Laws.{FirstIsLeast, HeldAreLive, StandsWhenEmpty, StaysWhereCleared}
 use Rattle.thread_queue.specs.Item.{foreign_key_of_item, foreign_precedes}
 use Rattle.thread_queue.specs.declared.item.Item.{Item}
 use Rattle.stealing.specs.Clearing.{ClearsBelow, ClearsOne}
-use Rattle.stealing.specs.Foreign.{Clears, HasSlot, LacksSlot, OffersEntries, Roots, StandsIn, heap_of, times_anywhere, times_in}
+use Rattle.stealing.specs.Foreign.{HasSlot, OffersEntries, Roots, StandsIn, heap_of}
 use Rattle.stealing.proofs.Best.{none_held}
 use Rattle.stealing.proofs.Changes.{changes, root_here, root_there, stands_after}
-use Rattle.stealing.proofs.Held.{apart, zero_or_some}
+use Rattle.stealing.proofs.Held.{apart}
 
 -- an empty heap has no slot
 pub none_there : FirstIsLeast 1 foreign_key_of_item foreign_precedes → StandsWhenEmpty 1 foreign_key_of_item foreign_precedes → (arena : Arena Item) (foreign : Roots) (to slot : ℕ) → heap_of foreign to ≡ None → HasSlot arena foreign to slot → ⊥

@@ -1,11 +1,11 @@
 -- The heaps of the clusters below a number are cleared, and then all.
-use Rattle.std.proofs.Common.{◌≡◌, ◌≢◌, ℕ, ◌+◌, ◌<◌, ◌≤◌, Option, None, length, refl, sym, ap, ◌∙◌, subst, inl, inr, arith}
+use Rattle.std.proofs.Common.{◌≡◌, ◌≢◌, ℕ, ◌+◌, ◌<◌, ◌≤◌, Option, None, length, sym, ap, ◌∙◌, subst, inl, inr, arith}
 use Rattle.std.specs.Prelude.{replicate}
 use Rattle.std.proofs.lemmas.Bool.{cases_eq, cases_lt}
 use Rattle.std.proofs.lemmas.List.{get_or_past}
 use Rattle.std.proofs.lemmas.List.Sums.{get_or-le-sum_by}
 use Rattle.sched_base.specs.Limits.{most_clusters}
-use Rattle.link_arena.specs.Arena.{Arena, links_at, unlinked}
+use Rattle.link_arena.specs.Arena.{Arena}
 use Rattle.pairing_heap.specs.Heap.{pairs_at, times_of}
 use Rattle.pairing_heap.specs.Laws.{FirstIsLeast, HeldAreLive, StandsWhenEmpty}
 use Rattle.thread_queue.specs.Item.{foreign_key_of_item, foreign_precedes}

@@ -1,19 +1,15 @@
 -- A slot comes into the heap of its thread's preferred cluster.
-use Rattle.std.proofs.Common.{◌≡◌, ◌≢◌, ◌⊎◌, ℕ, ◌+◌, ◌<◌, ◌==◌, true, false, Option, Some, List, [], ◌∷◌, ◌++◌, Contains, length, cond, refl, sym, ap, ◌∙◌, subst, inl, inr, arith, eq-eqb, eqb-true}
+use Rattle.std.proofs.Common.{◌≡◌, ◌≢◌, ◌⊎◌, ℕ, ◌+◌, ◌<◌, ◌==◌, true, Option, Some, length, refl, sym, ap, ◌∙◌, subst, inl, inr, arith, eq-eqb, eqb-true}
 use Rattle.std.specs.Prelude.{if◌then◌else◌, slice_set}
-use Rattle.std.proofs.lemmas.Bool.{and_from, and_parts, cases_Bool, cases_eq}
-use Rattle.std.proofs.lemmas.List.Elements.{Contains-append_left, Contains-push, Contains-push_cases}
-use Rattle.sched_base.specs.Limits.{most_clusters}
+use Rattle.std.proofs.lemmas.Bool.{and_from, cases_Bool, cases_eq}
 use Rattle.flat_policy.specs.Policy.Offer.{is_unbound, prefers}
-use Rattle.flat_policy.specs.Policy.Queue.{Queued}
-use Rattle.flat_policy.proofs.Members.{filter_has, member_of_filter}
 use Rattle.link_arena.specs.Arena.{Arena, IsLive, value_at}
 use Rattle.pairing_heap.specs.Heap.{AddsPair, LinksOnly, pairs_at, times_of}
 use Rattle.pairing_heap.specs.Laws.{AddedStaysApart, AddsOneSlot, HeldAreLive}
-use Rattle.thread_queue.specs.Item.{entry_of, foreign_key_of_item, foreign_precedes}
+use Rattle.thread_queue.specs.Item.{foreign_key_of_item, foreign_precedes}
 use Rattle.thread_queue.specs.declared.item.Item.{Item}
-use Rattle.stealing.specs.Foreign.{HasSlot, IsForeign, IsNewArrival, LacksSlot, OffersEntries, Roots, StandsIn, heap_of, times_in, wanting}
-use Rattle.stealing.proofs.Changes.{Changes, changes, root_here, stands_after}
+use Rattle.stealing.specs.Foreign.{HasSlot, IsForeign, LacksSlot, Roots, StandsIn, heap_of, times_in}
+use Rattle.stealing.proofs.Changes.{changes, root_here, stands_after}
 use Rattle.stealing.proofs.Held.{apart}
 
 -- the slot of the item comes into its heap

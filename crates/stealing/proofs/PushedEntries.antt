@@ -1,5 +1,5 @@
 -- The heaps stand for one entry more.
-use Rattle.std.proofs.Common.{◌≡◌, ℕ, ◌==◌, true, Some, List, [], ◌∷◌, ◌++◌, Contains, refl, sym, ap, ◌∙◌, subst, inl, inr, eqb-true}
+use Rattle.std.proofs.Common.{◌≡◌, ℕ, ◌==◌, true, Some, List, [], ◌∷◌, ◌++◌, Contains, sym, ap, ◌∙◌, subst, inl, inr, eqb-true}
 use Rattle.std.proofs.lemmas.Bool.{and_parts}
 use Rattle.std.proofs.lemmas.List.Elements.{Contains-append_left, Contains-push, Contains-push_cases}
 use Rattle.flat_policy.specs.Policy.Offer.{is_unbound, prefers}

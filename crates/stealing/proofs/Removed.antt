@@ -1,8 +1,7 @@
 -- A slot leaves the heap of its thread's preferred cluster.
-use Rattle.std.proofs.Common.{◌≡◌, ◌≢◌, ℕ, ◌+◌, ◌<◌, ◌==◌, true, false, Option, Some, List, length, refl, sym, ap, ◌∙◌, subst, inl, inr, arith, eqb-true}
+use Rattle.std.proofs.Common.{◌≡◌, ◌≢◌, ℕ, ◌+◌, ◌<◌, ◌==◌, Option, Some, length, sym, ap, ◌∙◌, subst, inl, inr, arith, eqb-true}
 use Rattle.std.specs.Prelude.{if◌then◌else◌, slice_set}
 use Rattle.std.proofs.lemmas.Bool.{cases_Bool, cases_eq}
-use Rattle.flat_policy.specs.Policy.Offer.{prefers}
 use Rattle.link_arena.specs.Arena.{Arena, links_at, unlinked, value_at}
 use Rattle.pairing_heap.specs.Heap.{LinksOnly, TakesPair, pairs_at, times_of}
 use Rattle.pairing_heap.specs.Laws.{HeldAreLive, TakenIsLacked, TakenStaysApart, TakesOneSlot}

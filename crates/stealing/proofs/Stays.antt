@@ -1,13 +1,13 @@
 -- The heaps stay where their slots do.
-use Rattle.std.proofs.Common.{◌≡◌, ℕ, ◌<◌, Option, Some, List, refl, sym, ap, ◌∙◌, subst}
+use Rattle.std.proofs.Common.{◌≡◌, ℕ, ◌<◌, Option, List, sym, ap, ◌∙◌, subst}
 use Rattle.flat_policy.specs.Policy.Queue.{Queued}
-use Rattle.link_arena.specs.Arena.{Arena, value_at}
+use Rattle.link_arena.specs.Arena.{Arena}
 use Rattle.pairing_heap.specs.Heap.{key_of_value, times_of}
 use Rattle.pairing_heap.specs.Laws.{StaysIn as HeapStays, StaysWhereSlotsStay as HeapStaysWhere}
 use Rattle.thread_queue.specs.Item.{foreign_key_of_item, foreign_precedes}
 use Rattle.thread_queue.specs.declared.item.Item.{Item}
 use Rattle.stealing.specs.Foreign.{HasSlot, OffersEntries, Roots, StandsIn, heap_of, times_in}
-use Rattle.stealing.specs.Laws.{SameSlots, StaysIn, StaysWhereSlotsStay}
+use Rattle.stealing.specs.Laws.{SameSlots, StaysWhereSlotsStay}
 
 offers_stay : (old new : Arena Item) (foreign : Roots) → SameSlots old new foreign → StandsIn new foreign → ((to slot : ℕ) → times_in new foreign to slot ≡ times_in old foreign to slot) → (entries : List Queued) → OffersEntries old foreign entries → OffersEntries new foreign entries
 offers_stay old new foreign same stands slots entries offers =

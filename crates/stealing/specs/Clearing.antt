@@ -1,5 +1,5 @@
 -- How the work of clearing the heaps is said. No public clause cites this module.
-use Rattle.std.specs.Prelude.{None, ℕ, ◌+◌, ◌<◌, ◌≡◌, ◌≢◌, ◌≤◌}
+use Rattle.std.specs.Prelude.{None, ℕ, ◌<◌, ◌≡◌, ◌≢◌, ◌≤◌}
 use Rattle.link_arena.specs.Arena.{Arena, links_at, unlinked, value_at}
 use Rattle.pairing_heap.specs.Heap.{LinksOnly}
 use Rattle.thread_queue.specs.declared.item.Item.{Item}

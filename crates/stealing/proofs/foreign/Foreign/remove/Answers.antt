@@ -1,5 +1,5 @@
 -- The heap of the preferred cluster has one slot less.
-use Rattle.std.proofs.Common.{Option, arith, length, lit<, subst, sym, ap, ℕ, ◌<◌}
+use Rattle.std.proofs.Common.{Option, arith, length, lit<, subst, sym, ℕ, ◌<◌}
 use Rattle.pairing_heap.specs.Heap.{Holds, Stands}
 use Rattle.thread_queue.specs.Item.{foreign_key_of_item, foreign_precedes}
 use Rattle.stealing.specs.Foreign.{Roots}
