@@ -48,7 +48,7 @@ best_is live least arena foreign entries to slot lt offers is =
           let b = offers.back to lt y member in
           ap (λ (z : Queued). foreign_before z top) (sym b.2.2)
           ∙ (least arena (heap_of foreign to) (offers.stands.heaps to)).least slot b.0 (foreign_key_of_item item.0) (foreign_key_of_item b.1)
-              is (ap keyed item.1) b.2.0 (ap keyed b.2.1));
+          is (ap keyed item.1) b.2.0 (ap keyed b.2.1));
     } in
     record {
       held = held;

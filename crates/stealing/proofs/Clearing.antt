@@ -51,8 +51,8 @@ pub clears_one : HeldAreLive 1 foreign_key_of_item foreign_precedes → FirstIsL
 clears_one live least empty stay old new foreign at stands within clears =
     let later = slice_set foreign at None in
     let change = changes old new foreign at None stands.eight within (empty (lit< tt) new)
-      (λ to unlike. stay old new (heap_of foreign at) (stands.heaps at) clears (heap_of foreign to) (stands.heaps to) (apart live old foreign stands at to (λ e. unlike (sym e))))
-      clears.kept.values in
+    (λ to unlike. stay old new (heap_of foreign at) (stands.heaps at) clears (heap_of foreign to) (stands.heaps to) (apart live old foreign stands at to (λ e. unlike (sym e))))
+    clears.kept.values in
     let none = root_here foreign at None within in
     record {
       stands = stands_after old new foreign later at stands change (λ slot item held stored. absurd (none_there least empty new later at slot none held));

@@ -61,20 +61,20 @@ comes live one stay old new foreign slot item root stands is_live stored wants l
     let at = item.thread.prefer in
     let within : at < length foreign = subst (λ (n : ℕ). at < n) (sym stands.eight) wants.cluster in
     let change = changes old new foreign at root stands.eight within adds.stands
-      (λ to unlike. (stay old new (heap_of foreign at) root slot is_live (stands.heaps at) adds (heap_of foreign to) (stands.heaps to)
-          (apart live old foreign stands at to (λ e. unlike (sym e))) (lacks to)).stays)
-      adds.kept.values in
+    (λ to unlike. (stay old new (heap_of foreign at) root slot is_live (stands.heaps at) adds (heap_of foreign to) (stands.heaps to)
+    (apart live old foreign stands at to (λ e. unlike (sym e))) (lacks to)).stays)
+    adds.kept.values in
     let here : (other : ℕ) → times_in new (slice_set foreign at root) at other ≡ (if slot == other then 1 else 0) + times_in old foreign at other
     = λ other. ap (λ (r : Option ℕ). times_of (pairs_at 1 foreign_key_of_item new r) other) (root_here foreign at root within)
-      ∙ one old new (heap_of foreign at) root slot is_live adds other in
+    ∙ one old new (heap_of foreign at) root slot is_live adds other in
     record {
       stored = stored;
       stands = stands_after old new foreign (slice_set foreign at root) at stands change
-        (λ other rival held valued. elim (one_more slot other _ _ (here other) held) [
-          | inl is ↦ (let same = some_is item rival (sym stored ∙ (ap (λ (n : ℕ). value_at old n) (sym is) ∙ valued)) in
-              subst (λ (i : Item). prefers at i.thread ≡ true) same (prefers_own item wants))
-          | inr before ↦ stands.at_preferred at other rival before valued
-        ]);
+          (λ other rival held valued. elim (one_more slot other _ _ (here other) held) [
+            | inl is ↦ (let same = some_is item rival (sym stored ∙ (ap (λ (n : ℕ). value_at old n) (sym is) ∙ valued)) in
+                subst (λ (i : Item). prefers at i.thread ≡ true) same (prefers_own item wants))
+            | inr before ↦ stands.at_preferred at other rival before valued
+          ]);
       here = here;
       others = change.slots;
       kept = subst (λ (r : Option ℕ). LinksOnly 1 old new (times_of (pairs_at 1 foreign_key_of_item new r))) (sym (root_here foreign at root within)) adds.kept;

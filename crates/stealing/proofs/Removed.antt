@@ -49,17 +49,17 @@ goes live one stay lacked old new foreign slot item root stands stored within he
     let later = slice_set foreign at root in
     let share = λ (to : ℕ) (unlike : to ≢ at). apart live old foreign stands at to (λ e. unlike (sym e)) in
     let change = changes old new foreign at root stands.eight within takes.stands
-      (λ to unlike. (stay old new (heap_of foreign at) root slot (stands.heaps at) takes (heap_of foreign to) (stands.heaps to) (share to unlike)).stays)
-      takes.kept.values in
+    (λ to unlike. (stay old new (heap_of foreign at) root slot (stands.heaps at) takes (heap_of foreign to) (stands.heaps to) (share to unlike)).stays)
+    takes.kept.values in
     let becomes = λ (other : ℕ). ap (λ (r : Option ℕ). times_of (pairs_at 1 foreign_key_of_item new r) other) (root_here foreign at root within) in
     let here : (other : ℕ) → times_in old foreign at other ≡ (if slot == other then 1 else 0) + times_in new later at other
     = λ other. one old new (heap_of foreign at) root slot (stands.heaps at) takes other
-      ∙ ap (λ (n : ℕ). (if slot == other then 1 else 0) + n) (sym (becomes other)) in
+    ∙ ap (λ (n : ℕ). (if slot == other then 1 else 0) + n) (sym (becomes other)) in
     record {
       stored = stored;
       held = held;
       stands = stands_after old new foreign later at stands change
-        (λ other rival after valued. stands.at_preferred at other rival (omega (arith, here other, after)) valued);
+          (λ other rival after valued. stands.at_preferred at other rival (omega (arith, here other, after)) valued);
       here = here;
       others = change.slots;
       lacks = λ to. elim (cases_eq to at) [

@@ -47,9 +47,9 @@ offers_removed old new foreign later slot item goes entries offers =
           let n = member_of_filter q entries e m.0 in
           let b = offers.back to lt e (filter_has p entries e n.0 m.1) in
           let unlike : b.0 ≢ slot = λ same.
-            test_unlike e.arrival item.arrival n.1
-            (ap (λ (x : Queued). x.arrival) (sym b.2.2)
-            ∙ ap (λ (i : Item). i.arrival) (some_is b.1 item (sym b.2.1 ∙ (ap (λ (k : ℕ). value_at old k) same ∙ goes.stored)))) in
+          test_unlike e.arrival item.arrival n.1
+          (ap (λ (x : Queued). x.arrival) (sym b.2.2)
+          ∙ ap (λ (i : Item). i.arrival) (some_is b.1 item (sym b.2.1 ∙ (ap (λ (k : ℕ). value_at old k) same ∙ goes.stored)))) in
           (b.0, b.1, (held_on old new foreign later slot item goes to b.0 unlike b.2.0, goes.kept.values b.0 ∙ b.2.1, b.2.2));
       once = λ to from one other thing rival held there stored kept same.
           offers.once to from one other thing rival

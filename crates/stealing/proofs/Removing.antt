@@ -41,7 +41,7 @@ remove_goes live one stay lacked old new foreign heaps slot item t other root vi
     let there = subst (λ (r : Option ℕ). TakesPair 1 foreign_key_of_item foreign_precedes old new r root slot) at takes in
     let here = subst (λ (f : Facts). TakesPair 1 foreign_key_of_item foreign_precedes old new (heap_of foreign f.prefer) root slot) is there in
     let gone = goes live one stay lacked old new foreign slot item root stands stored
-      (subst (λ (f : Facts). f.prefer < length foreign) is within) (subst (λ (f : Facts). HasSlot old foreign f.prefer slot) is held) here in
+    (subst (λ (f : Facts). f.prefer < length foreign) is within) (subst (λ (f : Facts). HasSlot old foreign f.prefer slot) is held) here in
     subst (λ (roots : Roots). Goes old new foreign (slice_set roots t.prefer root) slot item) (sym view)
     (subst (λ (f : Facts). Goes old new foreign (slice_set foreign f.prefer root) slot item) (sym is) gone)
 

@@ -27,9 +27,9 @@ pub stays : HeapStaysWhere 1 foreign_key_of_item foreign_precedes → StaysWhere
 stays law old new foreign stands same =
     let still : (to : ℕ) → HeapStays 1 foreign_key_of_item foreign_precedes old new (heap_of foreign to)
     = λ to. law old new (heap_of foreign to) (stands.heaps to) record {
-        keys = λ slot held. ap (λ (o : Option Item). key_of_value foreign_key_of_item o) (same.values to slot held);
-        links = same.links to;
-      } in
+      keys = λ slot held. ap (λ (o : Option Item). key_of_value foreign_key_of_item o) (same.values to slot held);
+      links = same.links to;
+    } in
     let slots : (to slot : ℕ) → times_in new foreign to slot ≡ times_in old foreign to slot
     = λ to slot. ap (λ pairs. times_of pairs slot) (still to).same in
     let stood : StandsIn new foreign = record {

@@ -134,7 +134,13 @@ fn offers_in_order<R: Abort, L: Ledger>(rt: &R, alloc: Global, blank: Blank)
     ] {
         enter(rt, &mut arena, &mut foreign, row, &mut steps);
     }
-    let slot = enter(rt, &mut arena, &mut foreign, row_of(6, 1, Bucket::Ini, 9, 5), &mut steps);
+    let slot = enter(
+        rt,
+        &mut arena,
+        &mut foreign,
+        row_of(6, 1, Bucket::Ini, 9, 5),
+        &mut steps,
+    );
     foreign.remove(&mut arena, slot, &mut steps);
     for name in [4, 3, 2] {
         assert_eq!(rt; leave(&mut arena, &mut foreign, 1, &mut steps), Some(name));

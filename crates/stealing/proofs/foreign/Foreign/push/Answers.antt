@@ -10,11 +10,16 @@ pub push-requires : goal.push-requires
 push-requires g c =
     let wants = c.requires.foreign c.get.result.now c.get.ensures in
     let lt = cluster_of c.facts-to.result c.get.result.now c.facts-to.ensures.facts wants in
-    let at = root_of_index c.args.self.now c.self.inside.heaps c.facts-to.result.prefer c.index-self-to.result c.self.view_is c.requires.stands.eight lt in
-    (lit< tt,
-    (subst (λ (r : Option ℕ). Stands 1 foreign_key_of_item foreign_precedes c.args.arena.now r) (sym at) (c.requires.stands.heaps c.facts-to.result.prefer),
-    (c.requires.live,
-    subst (λ (r : Option ℕ). Lacks 1 foreign_key_of_item c.args.arena.now r c.args.slot) (sym at) (c.requires.lacks c.facts-to.result.prefer))))
+    let at = root_of_index c.args.self.now c.self.inside.heaps c.facts-to.result.prefer c.index-self-to.result c.self.view_is c.requires.stands.eight lt in (
+      lit< tt,
+      (
+        subst (λ (r : Option ℕ). Stands 1 foreign_key_of_item foreign_precedes c.args.arena.now r) (sym at) (c.requires.stands.heaps c.facts-to.result.prefer),
+        (
+          c.requires.live,
+          subst (λ (r : Option ℕ). Lacks 1 foreign_key_of_item c.args.arena.now r c.args.slot) (sym at) (c.requires.lacks c.facts-to.result.prefer),
+        ),
+      ),
+    )
 
 pub returns-clause-pushes : goal.returns-clause-pushes
 returns-clause-pushes g c =

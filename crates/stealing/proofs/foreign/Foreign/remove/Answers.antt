@@ -23,10 +23,13 @@ pub remove-requires : goal.remove-requires
 remove-requires g c =
     let held = preferred_held c.args.arena.now c.args.self.now c.args.slot c.get.result.now c.facts-to.result c.requires.stands c.get.ensures c.facts-to.ensures.facts c.requires.held in
     let within = within_held c.heap_laws.ensures.first c.heap_laws.ensures.empty c.args.arena.now c.args.self.now c.facts-to.result.prefer c.args.slot held in
-    let at = root_of_index c.args.self.now c.self.inside.heaps c.facts-to.result.prefer c.index-self-to.result c.self.view_is c.requires.stands.eight (omega (arith, within, c.requires.stands.eight)) in
-    (lit< tt,
-    (subst (λ (r : Option ℕ). Stands 1 foreign_key_of_item foreign_precedes c.args.arena.now r) (sym at) (c.requires.stands.heaps c.facts-to.result.prefer),
-    subst (λ (r : Option ℕ). Holds 1 foreign_key_of_item c.args.arena.now r c.args.slot) (sym at) held))
+    let at = root_of_index c.args.self.now c.self.inside.heaps c.facts-to.result.prefer c.index-self-to.result c.self.view_is c.requires.stands.eight (omega (arith, within, c.requires.stands.eight)) in (
+      lit< tt,
+      (
+        subst (λ (r : Option ℕ). Stands 1 foreign_key_of_item foreign_precedes c.args.arena.now r) (sym at) (c.requires.stands.heaps c.facts-to.result.prefer),
+        subst (λ (r : Option ℕ). Holds 1 foreign_key_of_item c.args.arena.now r c.args.slot) (sym at) held,
+      ),
+    )
 
 pub returns-clause-removes : goal.returns-clause-removes
 returns-clause-removes g c =
