@@ -12,12 +12,8 @@ use Rattle.flat_policy.specs.declared.texts.LineFault.{LineFault}
 use Rattle.flat_policy.specs.declared.texts.Given.{Given}
 use Rattle.trace_machine.specs.Machines.{IsMachine, MachineView, Means, StepsTo}
 use Rattle.trace_machine.specs.declared.Reply.{Reply}
-use Rattle.trace_replay.specs.Traces.{Contradicts, Goes, TraceView}
+use Rattle.trace_replay.specs.Traces.{Contradicts, Goes, TraceView, moved}
 use Rattle.trace_text.specs.Writing.{AnswerFits, StepFits}
-
--- a step at the moment of a reply
-abbrev pub moved : Step → Reply → Step
-moved s told = record { moment = told.moment; actor = s.actor; act = s.act }
 
 -- the reply of the policy is that of the machine
 pub same_reply : (old mid : MachineView) (s : Step) (told : Reply) (g : MachineState) → Means old g → StepsTo old mid s told
