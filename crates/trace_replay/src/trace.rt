@@ -21,8 +21,8 @@ use ports::{Failed, Sink, put_all};
 use sched_base::{Answer, Step};
 use std::alloc::{AllocError, Global};
 use std::marker::Model;
-use trace_machine::{Machine, Reply};
 use trace_machine::laws::blocked_are_live;
+use trace_machine::{Machine, Reply};
 use trace_text::laws::{lines_are_exact, replies_have_texts};
 use trace_text::{Page, STEP_ROOM, read_step};
 

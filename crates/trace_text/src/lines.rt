@@ -13,9 +13,7 @@ use flat_policy::texts::{Given, LineFault};
 use sched_base::Step;
 use sched_base::limits::LINE_BYTES;
 
-/// What a line gives whose step is followed by this word: an answer, after `=`, to its end. It's a call
-/// of its own, so that a line without an answer isn't moved about with room for one.
-#[inline(never)]
+/// What a line gives whose step is followed by this word: an answer, after `=`, to its end.
 fn answered(step: Step, word: &[u8], pieces: Pieces<'_>) -> Result<Given, LineFault>
     ensures { result ≡ given_at step (word.now ∷ left pieces.entry) }
 {
