@@ -57,3 +57,10 @@ fits_of setup r given is = grind arith
 -- a line that says a step, says one that the setup fits
 pub fitting_line : (setup : SetupParts) (line : List ℕ) (given : Given) → step_line setup line ≡ Ok given → IsTrue (fits_step setup given.step)
 fitting_line setup line given is = fits_of setup (read_step_line line) given is
+
+said_of : (setup : SetupParts) (r : Result Given LineFault) (given : Given) → and_then r (if_fits setup) ≡ Ok given → r ≡ Ok given
+said_of setup r given is = grind arith
+
+-- and reads as that
+pub said_line : (setup : SetupParts) (line : List ℕ) (given : Given) → step_line setup line ≡ Ok given → read_step_line line ≡ Ok given
+said_line setup line given is = said_of setup (read_step_line line) given is

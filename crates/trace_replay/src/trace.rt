@@ -97,6 +97,7 @@ fn write_moved(page: &mut Page, given: &Given, reply: &Reply)
 
 /// Writes the step that a line says onto a page, with its effective moment and its answer. Each step
 /// has one text, so where its moment stays the line itself is written again.
+#[tactic(auto, using(crate::proofs::SaidAgain::reply_again))]
 fn write_reply(page: &mut Page, line: &[u8], given: &Given, reply: &Reply)
     requires says { read_step_line line.now ≡ Ok given.now }
     requires room { HasRoom page.old }

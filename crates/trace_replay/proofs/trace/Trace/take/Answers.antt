@@ -44,8 +44,8 @@ returns-clause-ok g c =
     let steps = subst (λ (v : TraceView). StepsTo v.machine c.step.new.self s told) c.self.view_is c.in_ok-reply.ensures.steps in
     record {
       goes =
-          taken_goes c.args.self.now (record { machine = c.step.new.self; page = c.write_reply.new.self; line = c.self.inside.line + 1 }) c.args.given.now told c.contradicts.result steps c.contradicts.ensures c.if-contradicts.false
-          (subst (λ (v : TraceView). c.write_reply.new.self ≡ v.page ++ answered_text (moved s told) told.answer) c.self.view_is c.write_reply.ensures);
+          taken_goes c.args.self.now (record { machine = c.step.new.self; page = c.write_reply.new.page; line = c.self.inside.line + 1 }) c.args.given.now told c.contradicts.result steps c.contradicts.ensures c.if-contradicts.false
+          (subst (λ (v : TraceView). c.write_reply.new.page ≡ v.page ++ answered_text (moved s told) told.answer) c.self.view_is c.write_reply.ensures);
       setup = setup_stays c.args.self.now.machine c.step.new.self s told c.requires.ready.machine steps;
       steps = c.in_ok-reply.ensures.count ∙ ap (λ (v : TraceView). v.machine.steps + 1) c.self.view_is;
       next = ap (λ (v : TraceView). v.line + 1) c.self.view_is;
