@@ -17,9 +17,9 @@ pub mod laws;
 mod machine;
 mod names;
 mod parts;
-mod yard;
 #[cfg(test)]
 mod tests;
+mod yard;
 
 pub use machine::Machine;
 use sched_base::Answer;

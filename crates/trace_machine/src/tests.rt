@@ -51,6 +51,9 @@ fn a_thread_is_made_entered_and_selected(rt: HostRuntime) -> Result<(), Fail> {
     let none = asked(&mut machine, Act::Select);
     machine.end();
     assert_eq!(rt; (made, entered), (Some(Answer::Yes), Some(Answer::Pri(31))));
-    assert_eq!(rt; (selected, none), (Some(Answer::Got(1)), Some(Answer::HandFull)));
+    assert_eq!(rt;
+        (selected, none),
+        (Some(Answer::Got(1)), Some(Answer::HandFull))
+    );
     Ok(())
 }
