@@ -1,0 +1,3 @@
+pub mod Ranks
+pub mod Lane
+pub mod Renewing

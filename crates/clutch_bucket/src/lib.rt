@@ -1,0 +1,8 @@
+//! The units of one unbound lane: a queue for each group, and which unit goes first.
+#![tactic(auto)]
+
+mod lane;
+mod ranks;
+
+pub use lane::LaneUnits;
+pub use ranks::{Ranks, UnitKey};
