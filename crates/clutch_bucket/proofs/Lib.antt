@@ -1,0 +1,9 @@
+pub mod Members
+pub mod Arrivals
+pub mod Clutches
+pub mod Tops
+pub mod Turns
+pub mod Units
+pub mod Removed
+pub mod Flats
+pub mod Lanes

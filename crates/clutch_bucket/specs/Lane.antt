@@ -85,8 +85,10 @@ pub record UnitStands (arena : Arena Item) (k : Clutch) (queue : Queue) : Type 0
   pub stands : StandsIn arena queue
   pub each : (slot : ℕ) (item : Item) → HasSlot arena queue slot → value_at arena slot ≡ Some item → UnitItem k item
 
--- each unit stands, and the lane counts the slots of all
+-- each unit stands, with spans and a place for a key, and the lane counts the slots of all
 pub record UnitsStand (arena : Arena Item) (lane : Lane) : Type 0 where
+  pub spans : length lane.spans ≡ groups lane
+  pub ranks : length lane.ranks ≡ groups lane
   pub each : (group : ℕ) → group < groups lane → UnitStands arena (unit_of lane group) (queue_at lane group)
   pub counted : lane.len ≡ sum_by (λ (queue : Queue). queue.count) lane.queues
 

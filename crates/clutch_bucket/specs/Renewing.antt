@@ -1,5 +1,8 @@
 -- How the keys of a lane are renewed, and what its private calls do to its queues; for private calls only.
 use Rattle.std.specs.Prelude.{Bool, None, Option, Some, false, if◌then◌else◌, not, slice_set, ℕ, ◌+◌, ◌==◌, ◌||◌, ◌≡◌}
+use Rattle.flat_policy.specs.Policy.Moves.{clutch_has_entries, with_next_turn, without_turn}
+use Rattle.flat_policy.specs.Policy.Precedence.{clutch_priority}
+use Rattle.flat_policy.specs.Policy.Queue.{Clutch, Flat}
 use Rattle.flat_policy.specs.Policy.Usage.{with_spans}
 use Rattle.link_arena.specs.Arena.{Arena}
 use Rattle.thread_queue.specs.Queue.{Pushes, Queue, Removes}
@@ -29,6 +32,15 @@ renewed_turn picked turn rank top = if takes_turn picked rank top then turn + 1 
 -- the lane with the key of a group's unit renewed
 abbrev pub with_renewed : Arena Item → Bool → ℕ → ℕ → Lane → Lane
 with_renewed arena picked turn group lane = record lane { ranks = slice_set lane.ranks group (renewed_rank picked turn (rank_at lane group) (top_at arena lane group)) }
+
+-- the priority of a clutch bucket; none where it has no entries
+abbrev pub top_of : Flat → Clutch → Option ℕ
+top_of s k = if clutch_has_entries s k then Some (clutch_priority s k) else None
+
+-- the cluster's queue where a clutch bucket of this priority, with this key, loses its turn or takes the next one by the rule
+abbrev pub turned : Bool → Option UnitKey → Option ℕ → Clutch → Flat → Flat
+turned picked rank None k s = without_turn k s
+turned picked rank (Some pri) k s = if takes_turn picked rank (Some pri) then with_next_turn k s else s
 
 -- a slot came into a group's queue, and spans were added to the group's
 pub record AddsSlot (old new : Arena Item) (before later : Lane) (group slot ran blocked : ℕ) : Type 0 where
