@@ -5,5 +5,8 @@ pub mod Tops
 pub mod Turns
 pub mod Units
 pub mod Removed
-pub mod Flats
+
+
 pub mod Lanes
+pub mod Apart
+pub mod Entering

@@ -1,6 +1,6 @@
 -- The priority of a clutch bucket is that of its queue's first item, with the score.
 use Rattle.std.proofs.Common.{◌≡◌, ℕ, ◌+◌, ◌≤◌, ◌<◌, ◌==◌, max, Bool, true, false, cond, Contains, List, [], ◌∷◌, Option, Some, None, IsSome, fold, map, refl, sym, ap, ap₂, ◌∙◌, subst, inl, inr, arith}
-use Rattle.std.specs.Prelude.{IfSome, IsNone, nat_lt, int_lt, ◌&&◌}
+use Rattle.std.specs.Prelude.{IfSome, is_some, nat_lt, int_lt, ◌&&◌}
 use Rattle.std.proofs.lemmas.Bool.{cond-true, cond-false, ltb-false, or_parts}
 use Rattle.flat_policy.specs.Policy.Moves.{clutch_has_entries}
 use Rattle.flat_policy.specs.Policy.Precedence.{clutch_priority, greatest_pri}
@@ -83,7 +83,7 @@ first_top live least arena queue slot s k spans is stands are same =
 top_by : HeldAreLive 0 key_of_item key_precedes → FirstIsLeast 0 key_of_item key_precedes → (arena : Arena Item) (queue : Queue) (root : Option ℕ) (s : Flat) (k : Clutch) (spans : Spans) → queue.root ≡ root → StandsIn arena queue → AreEntries arena queue (clutch_entries s k) → spans_of s k ≡ spans → slot_top arena k.bucket spans root ≡ top_of s k
 top_by live least arena queue None s k spans is stands are same =
     let first = least arena queue.root stands.heap in
-    sym (empty_top arena queue s k spans (first.none.0 (subst (λ (r : Option ℕ). IsNone r) (sym is) tt)) are)
+    sym (empty_top arena queue s k spans (first.none.0 (ap is_some is)) are)
 top_by live least arena queue (Some slot) s k spans is stands are same = first_top live least arena queue slot s k spans is stands are same
 
 -- the priority that a unit shows is that of the clutch bucket that it follows

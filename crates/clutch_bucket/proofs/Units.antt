@@ -76,14 +76,14 @@ pushed_cases old new queue later slot other pushes has =
       | inl e ↦ inl e
       | inr n ↦ (
           let times = pushes.slots other in
-          let zero = ap (λ (b : Bool). cond b 1 0) (ne_eqb slot other n) in
+          let zero = ap {B = ℕ} (λ (b : Bool). cond b 1 0) (ne_eqb slot other n) in
           inr (omega (arith, times, zero, has)))
     ]
 
 pub pushed_here : (old new : Arena Item) (queue later : Queue) (slot : ℕ) → Pushes old new queue later slot → HasSlot new later slot
 pushed_here old new queue later slot pushes =
     let times = pushes.slots slot in
-    let one = ap (λ (b : Bool). cond b 1 0) (eq-eqb slot slot refl) in
+    let one = ap {B = ℕ} (λ (b : Bool). cond b 1 0) (eq-eqb slot slot refl) in
     omega (arith, times, one)
 
 pub pushed_others : (old new : Arena Item) (queue later : Queue) (slot other : ℕ) → Pushes old new queue later slot → HasSlot old queue other → HasSlot new later other
@@ -143,7 +143,7 @@ follows_pushed old new queue later spans after slot item s next k pushes stored 
 pub removed_here : (old new : Arena Item) (queue later : Queue) (slot : ℕ) → (times_in old queue slot ≡ 1) → Removes old new queue later slot → LacksSlot new later slot
 removed_here old new queue later slot once removes =
     let times = removes.slots slot in
-    let one = ap (λ (b : Bool). cond b 1 0) (eq-eqb slot slot refl) in
+    let one = ap {B = ℕ} (λ (b : Bool). cond b 1 0) (eq-eqb slot slot refl) in
     omega (arith, times, one, once)
 
 pub remained : (old new : Arena Item) (queue later : Queue) (slot other : ℕ) → Removes old new queue later slot → HasSlot new later other → HasSlot old queue other
@@ -152,7 +152,7 @@ remained old new queue later slot other removes has = let times = removes.slots 
 pub remains : (old new : Arena Item) (queue later : Queue) (slot other : ℕ) → Removes old new queue later slot → slot ≢ other → HasSlot old queue other → HasSlot new later other
 remains old new queue later slot other removes n has =
     let times = removes.slots other in
-    let zero = ap (λ (b : Bool). cond b 1 0) (ne_eqb slot other n) in
+    let zero = ap {B = ℕ} (λ (b : Bool). cond b 1 0) (ne_eqb slot other n) in
     omega (arith, times, zero, has)
 
 pub unit_removed : (old new : Arena Item) (k : Clutch) (queue later : Queue) (slot : ℕ) → Removes old new queue later slot → UnitStands old k queue → UnitStands new k later

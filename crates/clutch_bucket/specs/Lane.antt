@@ -116,11 +116,11 @@ ArrivalsDiffer arena queue =
     → item.arrival ≡ rival.arrival → slot ≡ other
 
 -- a unit's slots hold the entries of a clutch bucket, each once, and its spans are those of the clutch bucket
-pub record UnitFollows (arena : Arena Item) (queue : Queue) (spans : Spans) (s : Flat) (k : Clutch) : Type 0 where
+pub record UnitFollows (arena : Arena Item) (queue : Queue) (used : Spans) (s : Flat) (k : Clutch) : Type 0 where
   pub entries : AreEntries arena queue (clutch_entries s k)
   pub count : queue.count ≡ length (clutch_entries s k)
   pub apart : ArrivalsDiffer arena queue
-  pub spans : spans_of s k ≡ spans
+  pub spans : spans_of s k ≡ used
 
 -- the units are the clutch buckets of the cluster's queue, but for their keys
 pub record UnitsFollow (arena : Arena Item) (at : Lane) (s : Flat) : Type 0 where

@@ -1,6 +1,6 @@
 //! Entries priced anew.
 
-ghost use Rattle.std.specs.Prelude.{◌≡◌, ◌≢◌, ◌<◌, ◌≤◌, ◌+◌, ◌^◌, ◌==◌, ℕ, Some, count_by, false, not};
+ghost use Rattle.std.specs.Prelude.{◌≡◌, ◌≢◌, ◌<◌, ◌≤◌, ◌+◌, ◌-◌, ◌^◌, ◌==◌, ℕ, Some, count_by, false, not};
 ghost use Rattle.flat_policy.specs.Laws.Refreshing.{with_turns_of};
 ghost use Rattle.flat_policy.specs.Policy.Queue.{Flat, Queued, lane, lane_entries};
 ghost use Rattle.flat_policy.specs.Policy.Refresh.{repriced};
