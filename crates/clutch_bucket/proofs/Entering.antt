@@ -76,7 +76,7 @@ grows p es x h = filter-append p es (x ∷ []) ∙ ap (λ (ys : List Queued). fi
 stays_so : (p : Queued → Bool) (es : List Queued) (x : Queued) → p x ≡ false → filter p (es ++ x ∷ []) ≡ filter p es
 stays_so p es x h = filter-append p es (x ∷ []) ∙ (ap (λ (ys : List Queued). filter p es ++ ys) (cond-false (p x) (x ∷ []) [] h) ∙ append-nil (filter p es))
 
-in_one_clutch : (at : Lane) (g h : ℕ) (x : Queued) → in_clutch (unit_of at g) x ≡ true → h ≢ g → in_clutch (unit_of at h) x ≡ false
+pub in_one_clutch : (at : Lane) (g h : ℕ) (x : Queued) → in_clutch (unit_of at g) x ≡ true → h ≢ g → in_clutch (unit_of at h) x ≡ false
 in_one_clutch at g h x here n = false_from_ne_true (in_clutch (unit_of at h) x) (λ there. n (sym (parts_of_clutch (unit_of at h) x there).1.0 ∙ (parts_of_clutch (unit_of at g) x here).1.0))
 
 module _ (old new : Arena Item) (before : Lane) (g slot : ℕ) (item : Item) (queue : Queue) (used : Spans) (e : Enters old new before g slot item queue) (s : Flat) (f : Follows old before s) (fresh : IsNew s item) where
@@ -108,7 +108,7 @@ module _ (old new : Arena Item) (before : Lane) (g slot : ℕ) (item : Item) (qu
       f.units.turn_places
 
   -- the rule of turns, by the key
-  entered_turn : turn_on_entering s (unit_of before g) (grown (unit_of before g) (entry_of item) used s) ≡ turned false (rank_at before g) (top_at new (entered_lane before g queue used) g) (unit_of before g) (grown (unit_of before g) (entry_of item) used s)
+  pub entered_turn : turn_on_entering s (unit_of before g) (grown (unit_of before g) (entry_of item) used s) ≡ turned false (rank_at before g) (top_at new (entered_lane before g queue used) g) (unit_of before g) (grown (unit_of before g) (entry_of item) used s)
   entered_turn =
       let k = unit_of before g in
       let x = grown k (entry_of item) used s in

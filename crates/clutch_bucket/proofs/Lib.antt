@@ -5,8 +5,9 @@ pub mod Tops
 pub mod Turns
 pub mod Units
 pub mod Removed
-
-
 pub mod Lanes
 pub mod Apart
 pub mod Entering
+pub mod Entered
+pub mod Leaving
+

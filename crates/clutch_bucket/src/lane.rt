@@ -6,6 +6,9 @@ ghost use Rattle.flat_policy.specs.Policy.Precedence.{clutch_priority};
 ghost use Rattle.flat_policy.specs.Policy.Queue.{Clutch, Flat, clutch_entries, empty_flat, has_entries, lane, lane_entries, no_spans};
 ghost use Rattle.flat_policy.specs.Policy.WellFormed.{WellFormed};
 ghost use Rattle.link_arena.specs.Arena.{Arena as Map};
+ghost use Rattle.pairing_heap.specs.Laws.{FirstIsLeast, HeldAreLive};
+ghost use Rattle.thread_queue.specs.Item.{key_of_item, key_precedes};
+ghost use Rattle.thread_queue.specs.Laws.{PushedStaysApart, RemovedIsLacked, RemovedStaysApart, SettledStaysApart};
 ghost use Rattle.thread_queue.specs.declared.item.Item.{Item as Stored};
 ghost use Rattle.clutch_bucket.specs.Lane.{Follows, IsBest, HasLaneSlot, LaneStands, UnitsStand, groups, no_queue, queue_at, rank_at, top_at, unit_of};
 ghost use Rattle.clutch_bucket.specs.Renewing.{is_pri, renewed_turn, with_renewed};
@@ -17,13 +20,13 @@ mod refreshing;
 use crate::{Ranks, UnitKey};
 use interactivity::Stats;
 use link_arena::Arena;
-use pairing_heap::Steps;
+use pairing_heap::{Steps, laws as heaps};
 use sched_base::Bucket;
 use sched_base::limits::MOST_GROUPS;
 use std::alloc::{AllocError, Global};
 use std::marker::Model;
 use std::sync::ledger::Ledger;
-use thread_queue::{Item, ThreadQueue};
+use thread_queue::{Item, ThreadQueue, laws as queues};
 
 /// The units of one unbound lane, one for each group, in order of greater priority, then lower turn. Their entries are slots of an
 /// arena of items.
@@ -164,6 +167,23 @@ impl LaneUnits {
             }
         }
     }
+}
+
+// What queues keep, as their laws say it.
+fn queue_laws()
+    ensures held { HeldAreLive 0 key_of_item key_precedes }
+    ensures first { FirstIsLeast 0 key_of_item key_precedes }
+    ensures pushed { PushedStaysApart }
+    ensures removed { RemovedStaysApart }
+    ensures gone { RemovedIsLacked }
+    ensures settled { SettledStaysApart }
+{
+    heaps::held_are_live::<Item, 0>();
+    heaps::first_is_least::<Item, 0>();
+    queues::pushed_stays_apart();
+    queues::removed_stays_apart();
+    queues::removed_is_lacked();
+    queues::settled_stays_apart();
 }
 
 // Whether a key has this priority.

@@ -7,7 +7,7 @@ ghost use Rattle.thread_queue.specs.declared.item.Item.{Item as Stored};
 ghost use Rattle.clutch_bucket.specs.Lane.{Follows, HasLaneSlot, IsNew, LacksLaneSlot, LaneStands, MayEnter, OnlyQueuesChange, OtherQueuesStayBut, SameGroups, groups, with_unit_entry};
 ghost use Rattle.clutch_bucket.specs.Renewing.{AddsSlot};
 
-use super::LaneUnits;
+use super::{LaneUnits, queue_laws};
 use link_arena::Arena;
 use pairing_heap::Steps;
 use std::sync::ledger::Ledger;
@@ -43,6 +43,7 @@ impl LaneUnits {
         ensures turn_most { turns.new ≤ turns.old + 1 }
         ensures ticks { steps.old ≤ steps.new }
     {
+        queue_laws();
         let group = arena.get(slot).thread.facts().group;
         self.add_slot(arena, slot, group, ran, blocked, steps);
         self.renew(arena, group, false, turns, steps);

@@ -9,7 +9,7 @@ ghost use Rattle.thread_queue.specs.declared.item.Item.{Item as Stored};
 ghost use Rattle.clutch_bucket.specs.Lane.{Follows, HasLaneSlot, LacksLaneSlot, LaneStands, OnlyQueuesChange, OtherQueuesStay, SameGroups, groups, queue_at, without_unit_entry};
 ghost use Rattle.clutch_bucket.specs.Renewing.{TakesSlot};
 
-use super::LaneUnits;
+use super::{LaneUnits, queue_laws};
 use link_arena::Arena;
 use pairing_heap::Steps;
 use std::sync::ledger::Ledger;
@@ -42,6 +42,7 @@ impl LaneUnits {
         ensures turn_most { turns.new ≤ turns.old + 1 }
         ensures ticks { steps.old ≤ steps.new }
     {
+        queue_laws();
         let group = arena.get(slot).thread.facts().group;
         self.take_slot(arena, slot, group, steps);
         self.renew(arena, group, picked, turns, steps);
