@@ -1,0 +1,4 @@
+pub mod Slots
+pub mod Keeping
+pub mod Growing
+pub mod FirstUnit
