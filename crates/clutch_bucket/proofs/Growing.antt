@@ -1,5 +1,5 @@
 -- What is kept at first, and with one group more.
-use Rattle.std.proofs.Common.{◌≡◌, ◌≢◌, ℕ, zero, suc, ◌+◌, ◌<◌, ◌≤◌, List, [], ◌∷◌, ◌++◌, Option, Some, None, length, slice_index, slice_index_or, refl, sym, ap, ◌∙◌, subst, inl, inr, arith}
+use Rattle.std.proofs.Common.{◌≡◌, ◌≢◌, ℕ, zero, suc, ◌+◌, ◌<◌, ◌≤◌, List, [], ◌∷◌, ◌++◌, Option, Some, None, length, slice_index, slice_index_or, refl, sym, ap, ◌∙◌, subst, inl, inr, arith, lit<}
 use Rattle.std.proofs.lemmas.Bool.{cases_lt}
 use Rattle.std.proofs.lemmas.List.{get_or_append_left, get_or_past, get_or_push, length_push}
 use Rattle.std.proofs.lemmas.Option.{none-some}
@@ -14,7 +14,7 @@ use Rattle.clutch_bucket.specs.declared.ranks.UnitKey.{UnitKey}
 -- an empty heap has no slot
 pub lacks_all : FirstIsLeast 0 key_of_ranked unit_key_precedes → (arena : Arena Ranked) → Stands 0 key_of_ranked unit_key_precedes arena None
     → (slot : ℕ) → Lacks 0 key_of_ranked arena None slot
-lacks_all least arena stands slot = ap (λ (xs : List (UnitKey × ℕ)). times_of xs slot) ((least arena None stands).none.0 tt)
+lacks_all least arena stands slot = ap (λ (xs : List (UnitKey × ℕ)). times_of xs slot) ((least arena None stands).none.0 refl)
 
 -- with no group
 pub kept_empty : StandsWhenEmpty 0 key_of_ranked unit_key_precedes → FirstIsLeast 0 key_of_ranked unit_key_precedes → (arena : Arena Ranked) → AreKept [] [] arena None
@@ -60,7 +60,7 @@ extended reserved inserted keys slots a b c heap slot group key count kept same 
     let last = inserted b c slot (record { key = key; group = group }) inserts heap mid.stands in
     let often : (other : ℕ) → times_of (pairs_at 0 key_of_ranked c heap) other ≡ times_of (pairs_at 0 key_of_ranked a heap) other =
     λ other. ap (λ (xs : List (UnitKey × ℕ)). times_of xs other) (last.stays.same ∙ mid.same) in
-    let longer = length_push keys (None {A = UnitKey}) in
+    let longer : length (keys ++ (None ∷ [])) ≡ length keys + 1 = length_push keys None in
     let there : (g : ℕ) → g < length keys → slice_index (slots ++ (slot ∷ [])) g ≡ slice_index slots g =
     λ g inside. get_or_append_left slots (slot ∷ []) 0 g (omega (arith, kept.sized, inside)) in
     let here : (g : ℕ) → g < length (keys ++ (None ∷ [])) → length keys ≤ g → g ≡ group = λ g inside past. omega (arith, count, longer, inside, past) in

@@ -1,7 +1,7 @@
 -- The heap has the slots of the groups with a key, where a key goes and where one comes.
 use Rattle.std.proofs.Common.{◌≡◌, ◌≢◌, ℕ, ◌+◌, ◌<◌, List, Option, Some, None, is_some, length, slice_index, slice_index_or, slice_set, refl, sym, ap, ◌∙◌, subst, inl, inr, arith}
-use Rattle.std.proofs.lemmas.Bool.{cases_eq}
-use Rattle.std.proofs.lemmas.List.{get_or-set_other, length-set}
+use Rattle.std.proofs.lemmas.Bool.{cases_eq, false≢true}
+use Rattle.std.proofs.lemmas.List.{get_or-set_other, get_or_read, length-set}
 use Rattle.std.proofs.lemmas.Option.{none-some, same_Some}
 use Rattle.link_arena.specs.Arena.{Arena, Revalues, value_at}
 use Rattle.pairing_heap.specs.Heap.{AddsPair, Holds, Lacks, TakesPair, pairs_at, times_of}
@@ -10,7 +10,7 @@ use Rattle.clutch_bucket.specs.KeptRanks.{AreKept, IsEntered, IsOwned, IsPlaced,
 use Rattle.clutch_bucket.specs.Ranks.{unit_key_precedes}
 use Rattle.clutch_bucket.specs.declared.ranks.Ranked.{Ranked}
 use Rattle.clutch_bucket.specs.declared.ranks.UnitKey.{UnitKey}
-use Rattle.clutch_bucket.proofs.Slots.{as_often, set_here, slots_apart, unlike_bare}
+use Rattle.clutch_bucket.proofs.Slots.{as_often, key_or_none, set_here, slots_apart, unlike_bare}
 
 -- where the key of a group goes, and its slot with it
 pub cleared : TakesOneSlot 0 key_of_ranked unit_key_precedes → TakenIsLacked 0 key_of_ranked unit_key_precedes
@@ -113,3 +113,18 @@ entered counts holds keys slots old new heap later group key within kept stored 
           record { group = was.group; within = subst (λ (n : ℕ). was.group < n) (sym size) was.within; same = was.same })
       ];
     }
+
+-- the slot of a group whose key was read is the heap's
+pub held_where_read : (keys : List (Option UnitKey)) (slots : List ℕ) (arena : Arena Ranked) (heap : Option ℕ) (group slot : ℕ) (seen : Option UnitKey) → group < length keys
+    → AreKept keys slots arena heap → seen ≡ slice_index_or keys group seen → is_some seen ≡ true → slot ≡ slice_index slots group → Holds 0 key_of_ranked arena heap slot
+held_where_read keys slots arena heap group slot seen within kept read some at =
+    let here = get_or_read keys group seen within read None in
+    elim (key_or_none seen) [
+      | inl none ↦ absurd (false≢true (sym (ap is_some none) ∙ some))
+      | inr is ↦ subst (λ (s : ℕ). Holds 0 key_of_ranked arena heap s) (sym at) (kept.entered group is.0 (sym here ∙ is.1)).held
+    ]
+
+-- the slot that was read for a group
+pub slot_read : (keys : List (Option UnitKey)) (slots : List ℕ) (arena : Arena Ranked) (heap : Option ℕ) (group slot : ℕ) → group < length keys
+    → AreKept keys slots arena heap → slot ≡ slice_index_or slots group slot → slot ≡ slice_index slots group
+slot_read keys slots arena heap group slot within kept read = get_or_read slots group slot (omega (arith, within, kept.sized)) read 0

@@ -2,7 +2,7 @@
 use Rattle.std.proofs.Common.{◌≡◌, ◌≢◌, ◌⊎◌, ℕ, ◌+◌, ◌<◌, Bool, List, Option, Some, None, length, slice_index, slice_index_or, slice_set, refl, sym, ap, ◌∙◌, subst, inl, inr, arith}
 use Rattle.std.specs.Prelude.{◌==◌, if◌then◌else◌}
 use Rattle.std.proofs.lemmas.Bool.{ne_eqb}
-use Rattle.std.proofs.lemmas.List.{get_or-set_same}
+use Rattle.std.proofs.lemmas.List.{get_or-set_same, set-set}
 use Rattle.std.proofs.lemmas.Option.{none-some}
 use Rattle.link_arena.specs.Arena.{Arena, value_at}
 use Rattle.clutch_bucket.specs.KeptRanks.{IsPlaced}
@@ -10,7 +10,7 @@ use Rattle.clutch_bucket.specs.declared.ranks.Ranked.{Ranked}
 use Rattle.clutch_bucket.specs.declared.ranks.UnitKey.{UnitKey}
 
 -- the group that a value names
-pub group_in : Option Ranked → ℕ
+abbrev pub group_in : Option Ranked → ℕ
 group_in None = 0
 group_in (Some ranked) = ranked.group
 
@@ -38,4 +38,8 @@ unlike_bare keys group g key bare is same =
 pub as_often : (slot other x y : ℕ) → other ≢ slot → x ≡ (if slot == other then 1 else 0) + y → x ≡ y
 as_often slot other x y apart counted =
     let unlike : slot ≢ other = λ same. apart (sym same) in
-    omega (arith, counted, ap (λ (b : Bool). if b then 1 else 0) (ne_eqb slot other unlike))
+    omega (arith, counted, ap {B = ℕ} (λ (b : Bool). if b then 1 else 0) (ne_eqb slot other unlike))
+
+-- where a key goes and then another comes, only the other counts
+pub set_twice : (keys : List (Option UnitKey)) (group : ℕ) (key : UnitKey) → slice_set (slice_set keys group None) group (Some key) ≡ slice_set keys group (Some key)
+set_twice keys group key = set-set keys group None (Some key)

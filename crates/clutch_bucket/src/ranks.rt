@@ -140,6 +140,7 @@ impl Ranks {
     }
 
     /// Gives the unit of a group this key, whether it had one or not. The other units keep theirs.
+    #[tactic(auto, using(crate::proofs::Slots::set_twice))]
     pub fn set<L: Ledger>(&mut self, group: u8, key: UnitKey, steps: &mut Steps<L>)
         requires { group < length self.old }
         ensures keys { self.new ≡ slice_set self.old group (Some key) }
