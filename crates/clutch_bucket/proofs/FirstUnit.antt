@@ -1,6 +1,5 @@
 -- The first slot of the heap is that of the unit that goes first.
-use Rattle.std.proofs.Common.{◌≡◌, ℕ, ◌<◌, List, Option, Some, None, IfSome, length, slice_index, slice_index_or, refl, sym, ap, ◌∙◌, subst, inl, inr, arith}
-use Rattle.std.proofs.lemmas.Option.{none-some, same_Some}
+use Rattle.std.proofs.Common.{◌≡◌, ℕ, List, Option, Some, None, length, slice_index, slice_index_or, refl, sym, ap, ◌∙◌, subst, inl, inr, arith}
 use Rattle.link_arena.specs.Arena.{Arena, value_at}
 use Rattle.pairing_heap.specs.Heap.{Holds, key_of_value, pairs_at, times_of}
 use Rattle.pairing_heap.specs.Laws.{FirstIsLeast}
@@ -8,7 +7,6 @@ use Rattle.clutch_bucket.specs.KeptRanks.{AreKept, IsOwned, key_of_ranked}
 use Rattle.clutch_bucket.specs.Ranks.{IsFirstUnit, unit_key_precedes}
 use Rattle.clutch_bucket.specs.declared.ranks.Ranked.{Ranked}
 use Rattle.clutch_bucket.specs.declared.ranks.UnitKey.{UnitKey}
-use Rattle.clutch_bucket.proofs.Growing.{lacks_all}
 use Rattle.clutch_bucket.proofs.Slots.{group_in, key_or_none}
 
 -- the group of a slot that the heap holds has a key
@@ -40,12 +38,3 @@ first_unit law keys slots arena slot value kept is =
           first.least slot (slice_index slots other) keyed.0 rival refl (ap (λ (o : Option Ranked). key_of_value key_of_ranked o) stored) entry.held
           (ap (λ (o : Option Ranked). key_of_value key_of_ranked o) entry.stored));
     })
-
--- where the heap is empty, no unit has a key
-pub no_unit : FirstIsLeast 0 key_of_ranked unit_key_precedes → (keys : List (Option UnitKey)) (slots : List ℕ) (arena : Arena Ranked)
-    → AreKept keys slots arena None → (g : ℕ) → slice_index_or keys g None ≡ None
-no_unit law keys slots arena kept g =
-    elim (key_or_none (slice_index_or keys g None)) [
-      | inl none ↦ none
-      | inr some ↦ absurd (omega (arith, (kept.entered g some.0 some.1).held, lacks_all law arena kept.stands (slice_index slots g)))
-    ]

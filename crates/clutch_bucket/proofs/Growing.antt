@@ -4,9 +4,9 @@ use Rattle.std.proofs.lemmas.Bool.{cases_lt}
 use Rattle.std.proofs.lemmas.List.{get_or_append_left, get_or_past, get_or_push, length_push}
 use Rattle.std.proofs.lemmas.Option.{none-some}
 use Rattle.link_arena.specs.Arena.{Arena, Inserts, SameMap, value_at}
-use Rattle.pairing_heap.specs.Heap.{Holds, Lacks, Stands, pairs_at, times_of}
+use Rattle.pairing_heap.specs.Heap.{Lacks, Stands, pairs_at, times_of}
 use Rattle.pairing_heap.specs.Laws.{FirstIsLeast, StandsWhenEmpty, StaysWhereInserted, StaysWhereReserved}
-use Rattle.clutch_bucket.specs.KeptRanks.{AreKept, IsEntered, IsOwned, IsPlaced, key_of_ranked}
+use Rattle.clutch_bucket.specs.KeptRanks.{AreKept, IsEntered, IsPlaced, key_of_ranked}
 use Rattle.clutch_bucket.specs.Ranks.{unit_key_precedes}
 use Rattle.clutch_bucket.specs.declared.ranks.Ranked.{Ranked}
 use Rattle.clutch_bucket.specs.declared.ranks.UnitKey.{UnitKey}

@@ -1,12 +1,12 @@
 -- The heap has the slots of the groups with a key, where a key goes and where one comes.
-use Rattle.std.proofs.Common.{◌≡◌, ◌≢◌, ℕ, ◌+◌, ◌<◌, List, Option, Some, None, is_some, length, slice_index, slice_index_or, slice_set, refl, sym, ap, ◌∙◌, subst, inl, inr, arith}
+use Rattle.std.proofs.Common.{◌≡◌, ℕ, ◌<◌, List, Option, Some, None, is_some, length, slice_index, slice_index_or, slice_set, sym, ap, ◌∙◌, subst, inl, inr, arith, true}
 use Rattle.std.proofs.lemmas.Bool.{cases_eq, false≢true}
 use Rattle.std.proofs.lemmas.List.{get_or-set_other, get_or_read, length-set}
 use Rattle.std.proofs.lemmas.Option.{none-some, same_Some}
 use Rattle.link_arena.specs.Arena.{Arena, Revalues, value_at}
 use Rattle.pairing_heap.specs.Heap.{AddsPair, Holds, Lacks, TakesPair, pairs_at, times_of}
 use Rattle.pairing_heap.specs.Laws.{AddedIsHeld, AddsOneSlot, StaysWhereRevalued, TakenIsLacked, TakesOneSlot}
-use Rattle.clutch_bucket.specs.KeptRanks.{AreKept, IsEntered, IsOwned, IsPlaced, key_of_ranked}
+use Rattle.clutch_bucket.specs.KeptRanks.{AreKept, IsEntered, IsPlaced, key_of_ranked}
 use Rattle.clutch_bucket.specs.Ranks.{unit_key_precedes}
 use Rattle.clutch_bucket.specs.declared.ranks.Ranked.{Ranked}
 use Rattle.clutch_bucket.specs.declared.ranks.UnitKey.{UnitKey}

@@ -1,5 +1,5 @@
 -- Why the keys of units are strictly ordered. No public clause cites this module.
-use Rattle.std.specs.Prelude.{Bool, false, nat_lt, true, ℕ, ◌&&◌, ◌+◌, ◌<◌, ◌==◌, ◌||◌, ◌≡◌}
+use Rattle.std.specs.Prelude.{false, nat_lt, true, ℕ, ◌&&◌, ◌<◌, ◌==◌, ◌≡◌}
 use Rattle.std.proofs.Common.{ap, arith, eq-eqb, eqb-true, inl, inr, le-ltb, lt-ltb, ltb-false, ltb-true, sym, ◌∙◌, ◌⊎◌}
 use Rattle.std.proofs.lemmas.Bool.{and_from, and_parts, and_right, false_from_ne_true, false≢true, or_cases, or_from, or_left, or_parts, or_right}
 use Rattle.pairing_heap.specs.Order.{IsStrictOrder}
