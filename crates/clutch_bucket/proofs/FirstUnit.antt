@@ -15,8 +15,8 @@ pub owner_has_key : (keys : List (Option UnitKey)) (slots : List ℕ) (arena : A
 owner_has_key keys slots arena heap slot kept held own =
     elim (key_or_none (slice_index_or keys own.group None)) [
       | inl none ↦ (
-        let often = ap (λ (s : ℕ). times_of (pairs_at 0 key_of_ranked arena heap) s) own.same in
-        absurd (omega (arith, held, often, kept.bare own.group own.within none)))
+          let often = ap (λ (s : ℕ). times_of (pairs_at 0 key_of_ranked arena heap) s) own.same in
+          absurd (omega (arith, held, often, kept.bare own.group own.within none)))
       | inr some ↦ some
     ]
 

@@ -70,13 +70,13 @@ extended reserved inserted keys slots a b c heap slot group key count kept same 
       stands = last.stays.stands;
       placed = λ g inside. elim (cases_lt g (length keys)) [
         | inl less ↦ (
-          let was = kept.placed g less in
-          subst (λ (s : ℕ). IsPlaced c s g) (sym (there g less))
-          (record { key = was.key; stored = value_stays a b c slot _ same inserts (slice_index slots g) (record { key = was.key; group = g }) was.stored }))
+            let was = kept.placed g less in
+            subst (λ (s : ℕ). IsPlaced c s g) (sym (there g less))
+            (record { key = was.key; stored = value_stays a b c slot _ same inserts (slice_index slots g) (record { key = was.key; group = g }) was.stored }))
         | inr past ↦ (
-          let is = here g inside past in
-          subst (λ (s : ℕ). IsPlaced c s g) (sym (new_slot g is))
-          (subst (λ (i : ℕ). IsPlaced c slot i) (sym is) (record { key = key; stored = inserts.stored })))
+            let is = here g inside past in
+            subst (λ (s : ℕ). IsPlaced c s g) (sym (new_slot g is))
+            (subst (λ (i : ℕ). IsPlaced c slot i) (sym is) (record { key = key; stored = inserts.stored })))
       ];
       entered = λ g k is. (
           let had = sym (push_none keys g) ∙ is in

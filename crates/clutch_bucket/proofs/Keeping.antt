@@ -30,16 +30,16 @@ cleared counts lacked keys slots old new heap later group within kept takes =
       entered = λ g key is. elim (cases_eq g group) [
         | inl same ↦ absurd (none-some key (sym (set_here keys group g None within same) ∙ is))
         | inr apart ↦ (
-          let was = kept.entered g key (sym (get_or-set_other keys group g None None apart) ∙ is) in
-          let unlike = slots_apart old gone (slice_index slots g) group g (kept.placed group within) (record { key = key; stored = was.stored }) apart in
-          let same = as_often gone (slice_index slots g) _ _ unlike (counted (slice_index slots g)) in
-          record { held = subst (λ (n : ℕ). 0 < n) same was.held; stored = takes.kept.values (slice_index slots g) ∙ was.stored })
+            let was = kept.entered g key (sym (get_or-set_other keys group g None None apart) ∙ is) in
+            let unlike = slots_apart old gone (slice_index slots g) group g (kept.placed group within) (record { key = key; stored = was.stored }) apart in
+            let same = as_often gone (slice_index slots g) _ _ unlike (counted (slice_index slots g)) in
+            record { held = subst (λ (n : ℕ). 0 < n) same was.held; stored = takes.kept.values (slice_index slots g) ∙ was.stored })
       ];
       bare = λ g inside is. elim (cases_eq g group) [
         | inl same ↦ subst (λ (i : ℕ). Lacks 0 key_of_ranked new later (slice_index slots i)) (sym same) lacks
         | inr apart ↦ (
-          let was = kept.bare g (subst (λ (n : ℕ). g < n) size inside) (sym (get_or-set_other keys group g None None apart) ∙ is) in
-          omega (arith, was, counted (slice_index slots g)))
+            let was = kept.bare g (subst (λ (n : ℕ). g < n) size inside) (sym (get_or-set_other keys group g None None apart) ∙ is) in
+            omega (arith, was, counted (slice_index slots g)))
       ];
       owned = λ slot held. (
           let before : Holds 0 key_of_ranked old heap slot = omega (arith, held, counted slot) in
@@ -62,8 +62,8 @@ revalued law keys slots old new heap group key within bare kept revalues =
       placed = λ g inside. elim (cases_eq g group) [
         | inl same ↦ subst (λ (i : ℕ). IsPlaced new (slice_index slots i) i) (sym same) (record { key = key; stored = revalues.here })
         | inr apart ↦ (
-          let was = kept.placed g inside in
-          record { key = was.key; stored = revalues.elsewhere (slice_index slots g) (slots_apart old _ _ group g (kept.placed group within) was apart) ∙ was.stored })
+            let was = kept.placed g inside in
+            record { key = was.key; stored = revalues.elsewhere (slice_index slots g) (slots_apart old _ _ group g (kept.placed group within) was apart) ∙ was.stored })
       ];
       entered = λ g k is. (
           let was = kept.entered g k is in
@@ -91,26 +91,26 @@ entered counts holds keys slots old new heap later group key within kept stored 
           record { key = was.key; stored = adds.kept.values (slice_index slots g) ∙ was.stored });
       entered = λ g k is. elim (cases_eq g group) [
         | inl same ↦ (
-          let keyed = same_Some key k (sym (set_here keys group g (Some key) within same) ∙ is) in
-          let here : IsEntered new later come group key = record { held = holds old new heap later come live adds; stored = adds.kept.values come ∙ stored } in
-          subst (λ (i : ℕ). IsEntered new later (slice_index slots i) i k) (sym same) (subst (λ (x : UnitKey). IsEntered new later come group x) keyed here))
+            let keyed = same_Some key k (sym (set_here keys group g (Some key) within same) ∙ is) in
+            let here : IsEntered new later come group key = record { held = holds old new heap later come live adds; stored = adds.kept.values come ∙ stored } in
+            subst (λ (i : ℕ). IsEntered new later (slice_index slots i) i k) (sym same) (subst (λ (x : UnitKey). IsEntered new later come group x) keyed here))
         | inr apart ↦ (
-          let was = kept.entered g k (sym (get_or-set_other keys group g (Some key) None apart) ∙ is) in
-          record { held = omega (arith, was.held, counted (slice_index slots g)); stored = adds.kept.values (slice_index slots g) ∙ was.stored })
+            let was = kept.entered g k (sym (get_or-set_other keys group g (Some key) None apart) ∙ is) in
+            record { held = omega (arith, was.held, counted (slice_index slots g)); stored = adds.kept.values (slice_index slots g) ∙ was.stored })
       ];
       bare = λ g inside is. elim (cases_eq g group) [
         | inl same ↦ absurd (none-some key (sym is ∙ set_here keys group g (Some key) within same))
         | inr apart ↦ (
-          let before = subst (λ (n : ℕ). g < n) size inside in
-          let unlike = slots_apart old come (slice_index slots g) group g (kept.placed group within) (kept.placed g before) apart in
-          as_often come (slice_index slots g) _ _ unlike (counted (slice_index slots g))
-          ∙ kept.bare g before (sym (get_or-set_other keys group g (Some key) None apart) ∙ is))
+            let before = subst (λ (n : ℕ). g < n) size inside in
+            let unlike = slots_apart old come (slice_index slots g) group g (kept.placed group within) (kept.placed g before) apart in
+            as_often come (slice_index slots g) _ _ unlike (counted (slice_index slots g))
+            ∙ kept.bare g before (sym (get_or-set_other keys group g (Some key) None apart) ∙ is))
       ];
       owned = λ slot held. elim (cases_eq slot come) [
         | inl same ↦ record { group = group; within = subst (λ (n : ℕ). group < n) (sym size) within; same = sym same }
         | inr apart ↦ (
-          let was = kept.owned slot (subst (λ (n : ℕ). 0 < n) (as_often come slot _ _ apart (counted slot)) held) in
-          record { group = was.group; within = subst (λ (n : ℕ). was.group < n) (sym size) was.within; same = was.same })
+            let was = kept.owned slot (subst (λ (n : ℕ). 0 < n) (as_often come slot _ _ apart (counted slot)) held) in
+            record { group = was.group; within = subst (λ (n : ℕ). was.group < n) (sym size) was.within; same = was.same })
       ];
     }
 

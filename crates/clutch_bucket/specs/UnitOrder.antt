@@ -6,7 +6,7 @@ use Rattle.pairing_heap.specs.Order.{IsStrictOrder}
 use Rattle.clutch_bucket.specs.Ranks.{unit_key_precedes}
 use Rattle.clutch_bucket.specs.declared.ranks.UnitKey.{UnitKey}
 
--- what it is for one key to precede another, as sums of numbers say it
+-- what it says that one key precedes another
 goes : (a b : UnitKey) → unit_key_precedes a b ≡ true → (b.pri < a.pri) ⊎ ((a.pri ≡ b.pri) × (a.turn < b.turn))
 goes a b h =
     elim (or_cases (nat_lt b.pri a.pri) ((a.pri == b.pri) && nat_lt a.turn b.turn) h) [
