@@ -11,3 +11,7 @@ pub mod Entering
 pub mod Entered
 pub mod Leaving
 
+pub mod Slots
+pub mod Keeping
+pub mod Growing
+pub mod FirstUnit
