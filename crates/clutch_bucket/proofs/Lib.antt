@@ -10,8 +10,8 @@ pub mod Apart
 pub mod Entering
 pub mod Entered
 pub mod Leaving
-
 pub mod Slots
 pub mod Keeping
 pub mod Growing
 pub mod FirstUnit
+pub mod PricedAnew

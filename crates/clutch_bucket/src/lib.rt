@@ -3,6 +3,8 @@
 
 mod lane;
 mod ranks;
+mod repricing;
 
 pub use lane::LaneUnits;
 pub use ranks::{Ranks, UnitKey};
+pub use repricing::refresh_queue;

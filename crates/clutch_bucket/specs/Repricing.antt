@@ -1,0 +1,46 @@
+-- What pricing the slots of one queue anew does to it.
+use Rattle.std.specs.Prelude.{Bool, None, Option, Some, count_by, false, not, ℕ, ◌==◌, ◌≡◌}
+use Rattle.flat_policy.specs.Policy.Usage.{decay, priority}
+use Rattle.link_arena.specs.Arena.{Arena, links_at, value_at}
+use Rattle.thread_queue.specs.Item.{settled_item}
+use Rattle.thread_queue.specs.Laws.{QueuesApart, StaysApart}
+use Rattle.thread_queue.specs.Queue.{HasSlot, LacksSlot, Queue, Settles, StandsIn, times_in, walk_of}
+use Rattle.thread_queue.specs.declared.item.Item.{Item}
+
+-- the usage of an item's thread, decayed to now
+abbrev pub usage_at : ℕ → Item → ℕ
+usage_at now item = decay item.thread.usage item.thread.seen now
+
+-- the priority of an item by its usage now, among so many entries of its unit
+abbrev pub pri_at : ℕ → ℕ → Item → ℕ
+pri_at count now item = priority item.thread.base item.thread.bucket (usage_at now item) count
+
+-- an item decayed to now and priced again, among so many entries of its unit
+abbrev pub repriced_item : ℕ → ℕ → Item → Item
+repriced_item count now item = settled_item (usage_at now item) now (pri_at count now item) item
+
+-- whether the priority of an item, if there is one, changes with that
+abbrev pub changes_pri : ℕ → ℕ → Option Item → Bool
+changes_pri count now None = false
+changes_pri count now (Some item) = not (pri_at count now item == item.pri)
+
+-- how many of the queue's slots change their priority
+abbrev pub changed_in : Arena Item → Queue → ℕ → ℕ
+changed_in arena queue now = count_by (λ slot. changes_pri queue.count now (value_at arena slot)) (walk_of arena queue)
+
+-- the queue has the same slots, whose items are priced anew; other values, the links of set 1, spare slots and queues with no slot of it stay
+pub record Reprices (old new : Arena Item) (queue later : Queue) (now : ℕ) : Type 0 where
+  pub stands : StandsIn new later
+  pub count : later.count ≡ queue.count
+  pub slots : (slot : ℕ) → times_in new later slot ≡ times_in old queue slot
+  pub values : (slot : ℕ) (item : Item) → HasSlot old queue slot → value_at old slot ≡ Some item → value_at new slot ≡ Some (repriced_item queue.count now item)
+  pub others : (slot : ℕ) → LacksSlot old queue slot → value_at new slot ≡ value_at old slot
+  pub second : (slot : ℕ) → links_at new 1 slot ≡ links_at old 1 slot
+  pub spare : new.spare ≡ old.spare
+  pub queues : (other : Queue) → StandsIn old other → QueuesApart old queue other → StaysApart old new later other
+
+-- one slot of the queue is settled by its usage now, among so many entries
+pub record RepricesSlot (old new : Arena Item) (queue later : Queue) (slot count now : ℕ) : Type 0 where
+  pub item : Item
+  pub was : value_at old slot ≡ Some item
+  pub settles : Settles old new queue later slot (usage_at now item) now (pri_at count now item)
