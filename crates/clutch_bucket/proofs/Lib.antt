@@ -15,3 +15,4 @@ pub mod Keeping
 pub mod Growing
 pub mod FirstUnit
 pub mod PricedAnew
+pub mod PricedAlong

@@ -2,6 +2,7 @@
 use Rattle.std.proofs.Common.{◌≡◌, ◌≢◌, ℕ, ◌+◌, ◌≤◌, ◌<◌, ◌==◌, Bool, true, false, cond, List, [], ◌∷◌, ◌++◌, Option, Some, None, length, refl, sym, ap, ◌∙◌, subst, inl, inr, arith, eq-eqb, length-append}
 use Rattle.std.specs.Prelude.{count_by}
 use Rattle.std.proofs.lemmas.Bool.{cases_eq, ne_eqb}
+use Rattle.std.proofs.lemmas.List.Sums.{count_by-le-length, sum_by-cons}
 use Rattle.link_arena.specs.Arena.{Arena, links_at, value_at}
 use Rattle.pairing_heap.specs.Heap.{times_of}
 use Rattle.pairing_heap.specs.Laws.{HeldAreLive}
@@ -22,7 +23,7 @@ abbrev pub changed_among : Arena Item → ℕ → ℕ → List ℕ → ℕ
 changed_among old count now slots = count_by (λ slot. changes_pri count now (value_at old slot)) slots
 
 -- the slots of the queue but for the rest are priced anew
-pub record RepricedBut (old new : Arena Item) (queue later : Queue) (now : ℕ) (rest : List ℕ) (changed : ℕ) : Type 0 where
+pub record RepricedBut (old new : Arena Item) (queue later : Queue) (now : ℕ) (rest : List ℕ) (told : ℕ) : Type 0 where
   pub stands : StandsIn new later
   pub count : later.count ≡ queue.count
   pub slots : (slot : ℕ) → times_in new later slot ≡ times_in old queue slot
@@ -33,8 +34,8 @@ pub record RepricedBut (old new : Arena Item) (queue later : Queue) (now : ℕ) 
   pub second : (slot : ℕ) → links_at new 1 slot ≡ links_at old 1 slot
   pub spare : new.spare ≡ old.spare
   pub queues : (other : Queue) → StandsIn old other → QueuesApart old queue other → StaysApart old new later other
-  pub changed : changed + changed_among old queue.count now rest ≡ changed_in old queue now
-  pub most : changed + length rest ≤ queue.count
+  pub changed : told + changed_among old queue.count now rest ≡ changed_in old queue now
+  pub most : told + length rest ≤ queue.count
 
 -- a walk has as many slots as the tree has pairs
 slots_length : {X : Type 0} (t : Tree X) → length (slots t) ≡ length (pairs t)
@@ -58,12 +59,8 @@ apart_back arena queue other apart = λ slot has.
     ]
 
 -- a queue with a slot counts one at least
-times_length : {X : Type 0} (xs : List (X × ℕ)) (slot : ℕ) → times_of xs slot ≤ length xs
-times_length [] slot = omega arith
-times_length (x ∷ xs) slot = let rest = times_length xs slot in omega (arith, rest)
-
 pub counts_some : (arena : Arena Item) (queue : Queue) (slot : ℕ) → StandsIn arena queue → HasSlot arena queue slot → 1 ≤ queue.count
-counts_some arena queue slot stands has = let most = times_length (members arena queue) slot in omega (arith, most, has, stands.counted)
+counts_some arena queue slot stands has = let most = count_by-le-length (λ pair. pair.1 == slot) (members arena queue) in omega (arith, most, has, stands.counted)
 
 -- nothing is priced anew at first
 pub reprices_begin : WalkCountsSlots → (old : Arena Item) (queue : Queue) (now : ℕ) → StandsIn old queue → RepricedBut old old queue queue now (walk_of old queue) 0
@@ -78,16 +75,23 @@ reprices_begin walk old queue now stands = record {
   second = λ slot. refl;
   spare = refl;
   queues = λ other there apart. record { stays = record { stands = there; same = refl }; apart = apart; back = apart_back old queue other apart };
-  changed = refl;
+  changed = (let all : changed_among old queue.count now (walk_of old queue) ≡ changed_in old queue now = refl in omega (arith, all));
   most = (let w = walk_length old queue stands in omega (arith, w));
 }
 
+-- a count of the first and the rest of a list
+pub count_cons : {X : Type 0} (p : X → Bool) (x : X) (xs : List X) → count_by p (x ∷ xs) ≡ cond (p x) 1 0 + count_by p xs
+count_cons p x xs = sum_by-cons (λ y. cond (p y) 1 0) x xs
+
 -- a slot among the first and the rest of a list
 among_here : (slot : ℕ) (rest : List ℕ) → times_among slot (slot ∷ rest) ≡ 1 + times_among slot rest
-among_here slot rest = ap (λ (b : Bool). cond b 1 0 + times_among slot rest) (eq-eqb slot slot refl)
+among_here slot rest = count_cons (λ other. other == slot) slot rest ∙ ap (λ (b : Bool). cond b 1 0 + times_among slot rest) (eq-eqb slot slot refl)
 
 among_later : (slot other : ℕ) (rest : List ℕ) → slot ≢ other → times_among other (slot ∷ rest) ≡ times_among other rest
-among_later slot other rest n = ap (λ (b : Bool). cond b 1 0 + times_among other rest) (ne_eqb slot other n)
+among_later slot other rest n =
+    let first = count_cons (λ o. o == other) slot rest in
+    let none = ap {B = ℕ} (λ (b : Bool). cond b 1 0) (ne_eqb slot other n) in
+    omega (arith, first, none)
 
 -- the slot at hand is one of the queue's, and its value is as it was
 pub at_hand : (old mid : Arena Item) (queue at : Queue) (now : ℕ) (slot : ℕ) (rest : List ℕ) (changed : ℕ) → RepricedBut old mid queue at now (slot ∷ rest) changed
@@ -143,8 +147,9 @@ reprices_step live law once old mid new queue at later now slot rest changed sta
           record { stays = record { stands = two.stays.stands; same = two.stays.same ∙ one.stays.same }; apart = two.apart; back = two.back });
       changed = (
           let all = r.changed in
+          let first = count_cons (λ o. changes_pri queue.count now (value_at old o)) slot rest in
           let same = ap (λ (o : Option Item). cond {A = ℕ} (changes_pri queue.count now o) 1 0) hand.1.1 in
-          omega (arith, all, same));
+          omega (arith, all, first, same));
       most = (
           let all = r.most in
           let one = one_most (changes_pri queue.count now (value_at mid slot)) in
