@@ -16,3 +16,4 @@ pub mod Growing
 pub mod FirstUnit
 pub mod PricedAnew
 pub mod PricedAlong
+pub mod UnitPriced

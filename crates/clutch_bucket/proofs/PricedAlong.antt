@@ -34,6 +34,7 @@ repriced_all old new queue later now told r = record {
   count = r.count;
   slots = r.slots;
   values = λ slot item has stored. r.done slot item has refl stored;
+  small = λ slot item has stored. r.small slot item has refl stored;
   others = r.others;
   second = r.second;
   spare = r.spare;

@@ -3,6 +3,7 @@ use Rattle.std.proofs.Common.{◌≡◌, ◌≢◌, ℕ, ◌+◌, ◌≤◌, ◌
 use Rattle.std.specs.Prelude.{count_by}
 use Rattle.std.proofs.lemmas.Bool.{cases_eq, ne_eqb}
 use Rattle.std.proofs.lemmas.List.Sums.{count_by-le-length, sum_by-cons}
+use Rattle.sched_base.specs.Limits.{most_base}
 use Rattle.link_arena.specs.Arena.{Arena, links_at, value_at}
 use Rattle.pairing_heap.specs.Heap.{times_of}
 use Rattle.pairing_heap.specs.Laws.{HeldAreLive}
@@ -30,6 +31,7 @@ pub record RepricedBut (old new : Arena Item) (queue later : Queue) (now : ℕ) 
   pub once : (slot : ℕ) → times_among slot rest ≤ times_in old queue slot
   pub waiting : (slot : ℕ) → 0 < times_among slot rest → value_at new slot ≡ value_at old slot
   pub done : (slot : ℕ) (item : Item) → HasSlot old queue slot → times_among slot rest ≡ 0 → value_at old slot ≡ Some item → value_at new slot ≡ Some (repriced_item queue.count now item)
+  pub small : (slot : ℕ) (item : Item) → HasSlot old queue slot → times_among slot rest ≡ 0 → value_at old slot ≡ Some item → pri_at queue.count now item ≤ most_base
   pub others : (slot : ℕ) → LacksSlot old queue slot → value_at new slot ≡ value_at old slot
   pub second : (slot : ℕ) → links_at new 1 slot ≡ links_at old 1 slot
   pub spare : new.spare ≡ old.spare
@@ -71,6 +73,7 @@ reprices_begin walk old queue now stands = record {
   once = λ slot. (let w = walk old queue slot in omega (arith, w));
   waiting = λ slot some. refl;
   done = λ slot item has none stored. (let w = walk old queue slot in absurd (omega (arith, w, none, has)));
+  small = λ slot item has none stored. (let w = walk old queue slot in absurd (omega (arith, w, none, has)));
   others = λ slot lacks. refl;
   second = λ slot. refl;
   spare = refl;
@@ -137,6 +140,11 @@ reprices_step live law once old mid new queue at later now slot rest changed sta
             ∙ (ap (λ (i : Item). Some (settled_item (usage_at now s.item) now (pri_at queue.count now s.item) i)) same
             ∙ ap (λ (i : Item). Some (settled_item (usage_at now i) now (pri_at queue.count now i) item)) alike)))
         | inr n ↦ rekeys.values other n ∙ r.done other item has (among_later slot other rest (λ e. n (sym e)) ∙ none) stored
+      ];
+      small = λ other item has none stored. elim (cases_eq other slot) [
+        | inl e ↦ subst (λ (i : Item). pri_at queue.count now i ≤ most_base)
+            (one_item mid slot s.item item s.was (hand.1.1 ∙ subst (λ (o : ℕ). value_at old o ≡ Some item) e stored)) s.small
+        | inr n ↦ r.small other item has (among_later slot other rest (λ e. n (sym e)) ∙ none) stored
       ];
       others = λ other lacks. rekeys.values other (λ e. not_both old queue slot hand.0 (subst (λ (o : ℕ). LacksSlot old queue o) e lacks)) ∙ r.others other lacks;
       second = λ other. rekeys.other_set 1 other (λ e. omega (arith, e)) ∙ r.second other;

@@ -1,11 +1,14 @@
 -- What pricing the slots of one queue anew does to it.
-use Rattle.std.specs.Prelude.{Bool, None, Option, Some, count_by, false, not, ℕ, ◌==◌, ◌≡◌}
+use Rattle.std.specs.Prelude.{Bool, None, Option, Some, count_by, false, not, slice_set, ℕ, ◌==◌, ◌≡◌, ◌≤◌}
 use Rattle.flat_policy.specs.Policy.Usage.{decay, priority}
+use Rattle.sched_base.specs.Limits.{most_base}
 use Rattle.link_arena.specs.Arena.{Arena, links_at, value_at}
 use Rattle.thread_queue.specs.Item.{settled_item}
 use Rattle.thread_queue.specs.Laws.{QueuesApart, StaysApart}
 use Rattle.thread_queue.specs.Queue.{HasSlot, LacksSlot, Queue, Settles, StandsIn, times_in, walk_of}
 use Rattle.thread_queue.specs.declared.item.Item.{Item}
+use Rattle.clutch_bucket.specs.Lane.{Lane, queue_at}
+use Rattle.clutch_bucket.specs.Renewing.{with_renewed}
 
 -- the usage of an item's thread, decayed to now
 abbrev pub usage_at : ℕ → Item → ℕ
@@ -28,12 +31,13 @@ changes_pri count now (Some item) = not (pri_at count now item == item.pri)
 abbrev pub changed_in : Arena Item → Queue → ℕ → ℕ
 changed_in arena queue now = count_by (λ slot. changes_pri queue.count now (value_at arena slot)) (walk_of arena queue)
 
--- the queue has the same slots, whose items are priced anew; other values, the links of set 1, spare slots and queues with no slot of it stay
+-- the queue has the same slots, whose items are priced anew within the range; other values, the links of set 1, spare slots and queues with no slot of it stay
 pub record Reprices (old new : Arena Item) (queue later : Queue) (now : ℕ) : Type 0 where
   pub stands : StandsIn new later
   pub count : later.count ≡ queue.count
   pub slots : (slot : ℕ) → times_in new later slot ≡ times_in old queue slot
   pub values : (slot : ℕ) (item : Item) → HasSlot old queue slot → value_at old slot ≡ Some item → value_at new slot ≡ Some (repriced_item queue.count now item)
+  pub small : (slot : ℕ) (item : Item) → HasSlot old queue slot → value_at old slot ≡ Some item → pri_at queue.count now item ≤ most_base
   pub others : (slot : ℕ) → LacksSlot old queue slot → value_at new slot ≡ value_at old slot
   pub second : (slot : ℕ) → links_at new 1 slot ≡ links_at old 1 slot
   pub spare : new.spare ≡ old.spare
@@ -43,4 +47,17 @@ pub record Reprices (old new : Arena Item) (queue later : Queue) (now : ℕ) : T
 pub record RepricesSlot (old new : Arena Item) (queue later : Queue) (slot count now : ℕ) : Type 0 where
   pub item : Item
   pub was : value_at old slot ≡ Some item
+  pub small : pri_at count now item ≤ most_base
   pub settles : Settles old new queue later slot (usage_at now item) now (pri_at count now item)
+
+-- the unit of a group is priced anew, and nothing else of the lane changes
+pub record RepricesUnit (old new : Arena Item) (before later : Lane) (group now : ℕ) : Type 0 where
+  pub queue : Queue
+  pub reprices : Reprices old new (queue_at before group) queue now
+  pub is : later ≡ record before { queues = slice_set before.queues group queue }
+
+-- the unit of a group is priced anew, and its key renewed with the turn; nothing else of the lane changes
+pub record RefreshesUnit (old new : Arena Item) (before later : Lane) (group now turn : ℕ) : Type 0 where
+  pub queue : Queue
+  pub reprices : Reprices old new (queue_at before group) queue now
+  pub is : later ≡ with_renewed new false turn group (record before { queues = slice_set before.queues group queue })

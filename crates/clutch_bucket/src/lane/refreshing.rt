@@ -8,9 +8,12 @@ ghost use Rattle.flat_policy.specs.Policy.WellFormed.{WellFormed};
 ghost use Rattle.link_arena.specs.Arena.{links_at, value_at};
 ghost use Rattle.sched_base.specs.declared.Bucket.TheVariants.{Ui};
 ghost use Rattle.thread_queue.specs.declared.item.Item.{Item as Stored};
-ghost use Rattle.clutch_bucket.specs.Lane.{Follows, HasLaneSlot, HoldsRepriced, LacksLaneSlot, LanePriced, LaneStands, OtherQueuesStay, SameGroups, groups};
+ghost use Rattle.clutch_bucket.specs.Lane.{Follows, HasLaneSlot, HoldsRepriced, LacksLaneSlot, LanePriced, LaneStands, OtherQueuesStay, SameGroups, groups, queue_at, rank_at, top_at};
+ghost use Rattle.clutch_bucket.specs.Renewing.{renewed_turn};
+ghost use Rattle.clutch_bucket.specs.Repricing.{RefreshesUnit, RepricesUnit, changed_in};
 
-use super::LaneUnits;
+use super::{LaneUnits, queue_laws};
+use crate::refresh_queue;
 use link_arena::Arena;
 use pairing_heap::Steps;
 use std::sync::ledger::Ledger;
@@ -30,7 +33,7 @@ impl LaneUnits {
     ) -> u32
         requires stands { LaneStands arena.old self.old }
         requires bucket { self.old.bucket ≢ Ui }
-        requires now { now < 2 ^ 40 }
+        requires room { self.old.len ≤ 4096 }
         requires turn { turns.old < 2 ^ 63 - 64 }
         ensures stands { LaneStands arena.new self.new }
         ensures follows { (s p : Flat) → Follows arena.old self.old s → WellFormed (groups self.old) s → LanePriced (groups self.old) now s p self.old.bucket → turns.old ≡ p.next_turn
@@ -49,6 +52,56 @@ impl LaneUnits {
         ensures turn_most { turns.new ≤ turns.old + 64 }
         ensures ticks { steps.old ≤ steps.new }
     {
-        0
+        queue_laws();
+        let mut changed = 0;
+        for group in 0..self.queues.len() as u8 {
+            changed += self.refresh_unit(arena, group, now, turns, steps);
+        }
+        changed
+    }
+
+    // Prices the entries of a group's unit anew, and renews the unit's key. Tells how many priorities changed.
+    fn refresh_unit<L: Ledger>(
+        &mut self,
+        arena: &mut Arena<Item>,
+        group: u8,
+        now: u64,
+        turns: &mut u64,
+        steps: &mut Steps<L>,
+    ) -> u32
+        requires stands { LaneStands arena.old self.old }
+        requires group { group < groups self.old }
+        requires room { self.old.len ≤ 4096 }
+        requires turn { turns.old < 2 ^ 63 }
+        ensures refreshes { RefreshesUnit arena.old arena.new self.old self.new group now turns.old }
+        ensures turn { turns.new ≡ renewed_turn false turns.old (rank_at self.old group) (top_at arena.new self.new group) }
+        ensures changed { result ≡ changed_in arena.old (queue_at self.old group) now }
+        ensures most { result ≤ (queue_at self.old group).count }
+        ensures ticks { steps.old ≤ steps.new }
+    {
+        queue_laws();
+        let changed = self.reprice_unit(arena, group, now, steps);
+        self.renew(arena, group, false, turns, steps);
+        changed
+    }
+
+    // Prices the entries of a group's unit anew. The unit's key stays. Tells how many priorities changed.
+    fn reprice_unit<L: Ledger>(
+        &mut self,
+        arena: &mut Arena<Item>,
+        group: u8,
+        now: u64,
+        steps: &mut Steps<L>,
+    ) -> u32
+        requires stands { LaneStands arena.old self.old }
+        requires group { group < groups self.old }
+        requires room { self.old.len ≤ 4096 }
+        ensures reprices { RepricesUnit arena.old arena.new self.old self.new group now }
+        ensures changed { result ≡ changed_in arena.old (queue_at self.old group) now }
+        ensures most { result ≤ (queue_at self.old group).count }
+        ensures ticks { steps.old ≤ steps.new }
+    {
+        let queue = &mut self.queues[group as usize];
+        refresh_queue(queue, arena, now, &mut self.slots, steps)
     }
 }
