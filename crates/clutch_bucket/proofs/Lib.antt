@@ -17,3 +17,4 @@ pub mod FirstUnit
 pub mod PricedAnew
 pub mod PricedAlong
 pub mod UnitPriced
+pub mod LanePriced

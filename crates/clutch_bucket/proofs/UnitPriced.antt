@@ -27,30 +27,14 @@ requeued before g queue = changed_at before g queue (spans_at before g) before.l
 pub requeued_is : (before : Lane) (g : ℕ) (queue : Queue) → record before { queues = set before.queues g queue } ≡ requeued before g queue
 requeued_is before g queue = ap (λ (us : List Spans). record before { queues = set before.queues g queue; spans = us }) (sym (set-get_or before.spans g no_spans))
 
--- the next turn then, by the key before and the priority after
-pub renewed_by : (new : Arena Item) (before mid later : Lane) (g : ℕ) (queue : Queue) (turn after : ℕ) → mid ≡ record before { queues = set before.queues g queue } → later ≡ with_renewed new false turn g mid
-    → after ≡ renewed_turn false turn (rank_at mid g) (top_at new mid g) → after ≡ renewed_turn false turn (rank_at before g) (top_at new later g)
-renewed_by new before mid later g queue turn after is renewed rises =
-    rises
-    ∙ (ap (λ (l : Lane). renewed_turn false turn (rank_at l g) (top_at new mid g)) is
-    ∙ ap (λ (l : Lane). renewed_turn false turn (rank_at before g) (top_at new l g)) (sym renewed))
-
 -- an item priced anew stands where it stood
 pub fits_repriced : (k : Clutch) (count now : ℕ) (item : Item) → UnitItem k item → (repriced_item count now item).pri ≤ 127 → UnitItem k (repriced_item count now item)
 fits_repriced k count now item fits small = record { within = fits.within; small = small; ran = refl; blocked = refl }
 
--- where the values at a queue's slots stay, so does the priority by its first slot
-pub top_kept : FirstIsLeast 0 key_of_item key_precedes → (old new : Arena Item) (queue : Queue) (root : Option ℕ) (b : Bucket) (used : Spans) → queue.root ≡ root → StandsIn old queue → ValuesStay old new queue
-    → slot_top new b used root ≡ slot_top old b used root
-top_kept least old new queue None b used is stands values = refl
-top_kept least old new queue (Some slot) b used is stands values =
-    ap (item_top b used) (values slot (subst (λ (r : Option ℕ). IfSome r (λ x. HasSlot old queue x)) is (least old queue.root stands.heap).held))
-
 -- a unit of the lane is priced anew
 pub record PricesUnit (old new : Arena Item) (before : Lane) (g : ℕ) (queue : Queue) (now : ℕ) : Type 0 where
   pub held : HeldAreLive 0 key_of_item key_precedes
-  pub first : FirstIsLeast 0 key_of_item key_precedes
-  pub stands : LaneStands old before
+  pub stands : UnitsStand old before
   pub within : g < groups before
   pub reprices : Reprices old new (queue_at before g) queue now
 
@@ -59,17 +43,17 @@ module _ (old new : Arena Item) (before : Lane) (g : ℕ) (queue : Queue) (now :
   priced_law = λ other any there apart. e.reprices.queues other there apart
 
   pub priced_others : (h : ℕ) → h < groups before → h ≢ g → StaysIn old new (queue_at before h)
-  priced_others = others_stay (λ other. Unit {0}) old new before g queue e.held e.stands.units e.within priced_law (λ h inside. ())
+  priced_others = others_stay (λ other. Unit {0}) old new before g queue e.held e.stands e.within priced_law (λ h inside. ())
 
   pub priced_values : (h : ℕ) → h < groups before → h ≢ g → ValuesStay old new (queue_at before h)
-  priced_values h inside n = λ slot has. e.reprices.others slot (apart_within e.held old before h g e.stands.units inside e.within (λ same. n (sym same)) slot has)
+  priced_values h inside n = λ slot has. e.reprices.others slot (apart_within e.held old before h g e.stands inside e.within (λ same. n (sym same)) slot has)
 
   priced_here : UnitStands new (unit_of before g) queue
   priced_here = record {
     stands = e.reprices.stands;
     each = λ slot item has stored. (
         let was : HasSlot old (queue_at before g) slot = subst (λ (n : ℕ). 0 < n) (e.reprices.slots slot) has in
-        let unit = e.stands.units.each g e.within in
+        let unit = e.stands.each g e.within in
         let valued = item_from (value_at old slot) (e.held old (queue_at before g).root slot unit.stands.heap was) in
         let count = (queue_at before g).count in
         let is = one_item new slot (repriced_item count now valued.0) item (e.reprices.values slot valued.0 was valued.1) stored in
@@ -79,25 +63,14 @@ module _ (old new : Arena Item) (before : Lane) (g : ℕ) (queue : Queue) (now :
   pub priced_units : UnitsStand new (requeued before g queue)
   priced_units =
       let count = e.reprices.count in
-      units_changed old new before g queue (spans_at before g) before.len e.stands.units e.within priced_here
-      (λ h inside n. unit_stays old new (unit_of before h) (queue_at before h) (priced_others h inside n) (priced_values h inside n) (e.stands.units.each h inside))
+      units_changed old new before g queue (spans_at before g) before.len e.stands e.within priced_here
+      (λ h inside n. unit_stays old new (unit_of before h) (queue_at before h) (priced_others h inside n) (priced_values h inside n) (e.stands.each h inside))
       (omega (arith, count))
 
   pub inside_requeued : g < groups (requeued before g queue)
   inside_requeued = subst (λ (m : ℕ). g < m) (sym (groups_changed before g queue (spans_at before g) before.len)) e.within
 
-  priced_ranks : (h : ℕ) → h < groups (requeued before g queue) → h ≢ g → rank_pri (rank_at before h) ≡ top_at new (requeued before g queue) h
-  priced_ranks h inside n =
-      let was = subst (λ (m : ℕ). h < m) (groups_changed before g queue (spans_at before g) before.len) inside in
-      e.stands.ranks h was
-      ∙ (sym (top_kept e.first old new (queue_at before h) (queue_at before h).root before.bucket (spans_at before h) refl (e.stands.units.each h was).stands (priced_values h was n))
-      ∙ (ap (λ (u : Spans). slot_top new before.bucket u (queue_at before h).root) (sym (spans_other before g h queue (spans_at before g) before.len n))
-      ∙ ap (λ (q : Queue). slot_top new before.bucket (spans_at (requeued before g queue) h) q.root) (sym (queue_other before g h queue (spans_at before g) before.len n))))
-
-  pub priced_stands : (turn : ℕ) → LaneStands new (with_renewed new false turn g (requeued before g queue))
-  priced_stands turn = lane_renewed new false turn g (requeued before g queue) priced_units inside_requeued priced_ranks
-
   pub priced_queues : OtherQueuesStay old new before (requeued before g queue)
   priced_queues = λ other there apart.
-      let kept = stays_from (λ q. Unit {0}) old new before g queue (spans_at before g) before.len e.held e.stands.units e.within priced_law (λ h inside. ()) other () there apart in
+      let kept = stays_from (λ q. Unit {0}) old new before g queue (spans_at before g) before.len e.held e.stands e.within priced_law (λ h inside. ()) other () there apart in
       record { stays = kept.stays; apart = kept.apart }

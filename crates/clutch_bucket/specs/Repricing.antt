@@ -1,14 +1,13 @@
 -- What pricing the slots of one queue anew does to it.
-use Rattle.std.specs.Prelude.{Bool, None, Option, Some, count_by, false, not, slice_set, ℕ, ◌==◌, ◌≡◌, ◌≤◌}
+use Rattle.std.specs.Prelude.{Bool, None, Option, Some, count_by, false, not, slice_set, suc, zero, ℕ, ◌+◌, ◌<◌, ◌==◌, ◌≡◌, ◌≤◌}
 use Rattle.flat_policy.specs.Policy.Usage.{decay, priority}
 use Rattle.sched_base.specs.Limits.{most_base}
 use Rattle.link_arena.specs.Arena.{Arena, links_at, value_at}
 use Rattle.thread_queue.specs.Item.{settled_item}
-use Rattle.thread_queue.specs.Laws.{QueuesApart, StaysApart}
+use Rattle.thread_queue.specs.Laws.{QueuesApart, StaysApart, StaysIn}
 use Rattle.thread_queue.specs.Queue.{HasSlot, LacksSlot, Queue, Settles, StandsIn, times_in, walk_of}
 use Rattle.thread_queue.specs.declared.item.Item.{Item}
-use Rattle.clutch_bucket.specs.Lane.{Lane, queue_at}
-use Rattle.clutch_bucket.specs.Renewing.{with_renewed}
+use Rattle.clutch_bucket.specs.Lane.{Lane, LacksLaneSlot, OtherQueuesStay, UnitsStand, groups, queue_at}
 
 -- the usage of an item's thread, decayed to now
 abbrev pub usage_at : ℕ → Item → ℕ
@@ -56,8 +55,31 @@ pub record RepricesUnit (old new : Arena Item) (before later : Lane) (group now 
   pub reprices : Reprices old new (queue_at before group) queue now
   pub is : later ≡ record before { queues = slice_set before.queues group queue }
 
--- the unit of a group is priced anew, and its key renewed with the turn; nothing else of the lane changes
-pub record RefreshesUnit (old new : Arena Item) (before later : Lane) (group now turn : ℕ) : Type 0 where
-  pub queue : Queue
-  pub reprices : Reprices old new (queue_at before group) queue now
-  pub is : later ≡ with_renewed new false turn group (record before { queues = slice_set before.queues group queue })
+-- how many slots of the lane change their priority, in the queues of the groups below a number
+abbrev pub changed_upto : Arena Item → Lane → ℕ → ℕ → ℕ
+changed_upto arena lane now zero = 0
+changed_upto arena lane now (suc group) = changed_upto arena lane now group + changed_in arena (queue_at lane group) now
+
+-- a queue has the same slots, whose items are priced anew
+pub record IsPriced (old new : Arena Item) (queue later : Queue) (now : ℕ) : Type 0 where
+  pub count : later.count ≡ queue.count
+  pub slots : (slot : ℕ) → times_in new later slot ≡ times_in old queue slot
+  pub values : (slot : ℕ) (item : Item) → HasSlot old queue slot → value_at old slot ≡ Some item → value_at new slot ≡ Some (repriced_item queue.count now item)
+
+-- a queue stays, with the items of its slots
+pub record IsLeft (old new : Arena Item) (queue later : Queue) : Type 0 where
+  pub same : later ≡ queue
+  pub stays : StaysIn old new queue
+  pub values : (slot : ℕ) → HasSlot old queue slot → value_at new slot ≡ value_at old slot
+
+-- the units of the groups below a number are priced anew; keys, the other units and all else of the lane and the arena stay
+pub record PricedUpTo (old new : Arena Item) (before later : Lane) (upto now : ℕ) : Type 0 where
+  pub units : UnitsStand new later
+  pub same : later ≡ record before { queues = later.queues }
+  pub groups : groups later ≡ groups before
+  pub done : (group : ℕ) → group < groups before → group < upto → IsPriced old new (queue_at before group) (queue_at later group) now
+  pub left : (group : ℕ) → group < groups before → upto ≤ group → IsLeft old new (queue_at before group) (queue_at later group)
+  pub others : (slot : ℕ) → LacksLaneSlot old before slot → value_at new slot ≡ value_at old slot
+  pub second : (slot : ℕ) → links_at new 1 slot ≡ links_at old 1 slot
+  pub spare : new.spare ≡ old.spare
+  pub queues : OtherQueuesStay old new before later

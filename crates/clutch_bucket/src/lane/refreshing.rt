@@ -8,9 +8,8 @@ ghost use Rattle.flat_policy.specs.Policy.WellFormed.{WellFormed};
 ghost use Rattle.link_arena.specs.Arena.{links_at, value_at};
 ghost use Rattle.sched_base.specs.declared.Bucket.TheVariants.{Ui};
 ghost use Rattle.thread_queue.specs.declared.item.Item.{Item as Stored};
-ghost use Rattle.clutch_bucket.specs.Lane.{Follows, HasLaneSlot, HoldsRepriced, LacksLaneSlot, LanePriced, LaneStands, OtherQueuesStay, SameGroups, groups, queue_at, rank_at, top_at};
-ghost use Rattle.clutch_bucket.specs.Renewing.{renewed_turn};
-ghost use Rattle.clutch_bucket.specs.Repricing.{RefreshesUnit, RepricesUnit, changed_in};
+ghost use Rattle.clutch_bucket.specs.Lane.{Follows, HasLaneSlot, HoldsRepriced, LacksLaneSlot, LanePriced, LaneStands, OtherQueuesStay, SameGroups, UnitsStand, groups, queue_at};
+ghost use Rattle.clutch_bucket.specs.Repricing.{PricedUpTo, RepricesUnit, changed_in, changed_upto};
 
 use super::{LaneUnits, queue_laws};
 use crate::refresh_queue;
@@ -53,39 +52,33 @@ impl LaneUnits {
         ensures ticks { steps.old ≤ steps.new }
     {
         queue_laws();
+        let changed = self.reprice_all(arena, now, steps);
+        self.renew_all(arena, turns, steps);
+        changed
+    }
+
+    // Prices the entries of all units anew. Keys stay. Tells how many priorities changed.
+    fn reprice_all<L: Ledger>(
+        &mut self,
+        arena: &mut Arena<Item>,
+        now: u64,
+        steps: &mut Steps<L>,
+    ) -> u32
+        requires units { UnitsStand arena.old self.old }
+        requires room { self.old.len ≤ 4096 }
+        ensures priced { PricedUpTo arena.old arena.new self.old self.new (groups self.old) now }
+        ensures changed { result ≡ changed_upto arena.old self.old now (groups self.old) }
+        ensures ticks { steps.old ≤ steps.new }
+    {
+        queue_laws();
         let mut changed = 0;
         for group in 0..self.queues.len() as u8 {
-            changed += self.refresh_unit(arena, group, now, turns, steps);
+            changed += self.reprice_unit(arena, group, now, steps);
         }
         changed
     }
 
-    // Prices the entries of a group's unit anew, and renews the unit's key. Tells how many priorities changed.
-    fn refresh_unit<L: Ledger>(
-        &mut self,
-        arena: &mut Arena<Item>,
-        group: u8,
-        now: u64,
-        turns: &mut u64,
-        steps: &mut Steps<L>,
-    ) -> u32
-        requires stands { LaneStands arena.old self.old }
-        requires group { group < groups self.old }
-        requires room { self.old.len ≤ 4096 }
-        requires turn { turns.old < 2 ^ 63 }
-        ensures refreshes { RefreshesUnit arena.old arena.new self.old self.new group now turns.old }
-        ensures turn { turns.new ≡ renewed_turn false turns.old (rank_at self.old group) (top_at arena.new self.new group) }
-        ensures changed { result ≡ changed_in arena.old (queue_at self.old group) now }
-        ensures most { result ≤ (queue_at self.old group).count }
-        ensures ticks { steps.old ≤ steps.new }
-    {
-        queue_laws();
-        let changed = self.reprice_unit(arena, group, now, steps);
-        self.renew(arena, group, false, turns, steps);
-        changed
-    }
-
-    // Prices the entries of a group's unit anew. The unit's key stays. Tells how many priorities changed.
+    // Prices the entries of a group's unit anew. Keys stay. Tells how many priorities changed.
     fn reprice_unit<L: Ledger>(
         &mut self,
         arena: &mut Arena<Item>,
@@ -93,7 +86,7 @@ impl LaneUnits {
         now: u64,
         steps: &mut Steps<L>,
     ) -> u32
-        requires stands { LaneStands arena.old self.old }
+        requires units { UnitsStand arena.old self.old }
         requires group { group < groups self.old }
         requires room { self.old.len ≤ 4096 }
         ensures reprices { RepricesUnit arena.old arena.new self.old self.new group now }
