@@ -11,3 +11,5 @@ pub mod Entering
 pub mod Entered
 pub mod Leaving
 
+pub mod Left
+pub mod Best

@@ -1,14 +1,15 @@
 //! The units of a lane, and what is asked of them.
 
 ghost use Rattle.std.specs.Prelude.{◌≡◌, ◌<◌, ◌≤◌, ◌↔◌, ◌^◌, ℕ, IfOk, IfSome, IsNone, None, false, length, replicate};
-ghost use Rattle.flat_policy.specs.Laws.Units.{IsFirstClutch};
+ghost use Rattle.flat_policy.specs.Laws.Picks.{PrecedesOrders};
+ghost use Rattle.flat_policy.specs.Laws.Units.{FirstStandsInClutch, IsFirstClutch};
 ghost use Rattle.flat_policy.specs.Policy.Precedence.{clutch_priority};
 ghost use Rattle.flat_policy.specs.Policy.Queue.{Clutch, Flat, clutch_entries, empty_flat, has_entries, lane, lane_entries, no_spans};
 ghost use Rattle.flat_policy.specs.Policy.WellFormed.{WellFormed};
 ghost use Rattle.link_arena.specs.Arena.{Arena as Map};
 ghost use Rattle.pairing_heap.specs.Laws.{FirstIsLeast, HeldAreLive};
 ghost use Rattle.thread_queue.specs.Item.{key_of_item, key_precedes};
-ghost use Rattle.thread_queue.specs.Laws.{PushedStaysApart, RemovedIsLacked, RemovedStaysApart, SettledStaysApart};
+ghost use Rattle.thread_queue.specs.Laws.{FirstIsChosen, PushedStaysApart, RemovedIsLacked, RemovedStaysApart, SettledStaysApart};
 ghost use Rattle.thread_queue.specs.declared.item.Item.{Item as Stored};
 ghost use Rattle.clutch_bucket.specs.Lane.{Follows, IsBest, HasLaneSlot, LaneStands, UnitsStand, groups, no_queue, queue_at, rank_at, top_at, unit_of};
 ghost use Rattle.clutch_bucket.specs.Renewing.{is_pri, renewed_turn, with_renewed};
@@ -18,6 +19,7 @@ mod leaving;
 mod refreshing;
 
 use crate::{Ranks, UnitKey};
+use flat_policy::laws as policy;
 use interactivity::Stats;
 use link_arena::Arena;
 use pairing_heap::{Steps, laws as heaps};
@@ -111,6 +113,7 @@ impl LaneUnits {
         ensures none { (arena : Map Stored) (s : Flat) → Follows arena self.now s → WellFormed (groups self.now) s
             → IsNone result ↔ (has_entries s (lane self.now.bucket false) ≡ false) }
     {
+        queue_laws();
         let group = self.ranks.first()?;
         let key = self.ranks.get(group)?;
         Some(key.pri)
@@ -124,6 +127,8 @@ impl LaneUnits {
         ensures none { (s : Flat) → Follows arena.now self.now s → WellFormed (groups self.now) s
             → IsNone result ↔ (has_entries s (lane self.now.bucket false) ≡ false) }
     {
+        queue_laws();
+        order_laws();
         let group = self.ranks.first()?;
         self.queues[group as usize].first()
     }
@@ -184,6 +189,17 @@ fn queue_laws()
     queues::removed_stays_apart();
     queues::removed_is_lacked();
     queues::settled_stays_apart();
+}
+
+// What goes first in a lane, as the laws of queues say it.
+fn order_laws()
+    ensures chosen { FirstIsChosen }
+    ensures stands { FirstStandsInClutch }
+    ensures orders { PrecedesOrders }
+{
+    queues::first_is_chosen();
+    policy::first_stands_in_clutch();
+    policy::precedes_orders();
 }
 
 // Whether a key has this priority.
