@@ -86,7 +86,7 @@ module _ (held : HeldAreLive 0 key_of_item key_precedes) (least : FirstIsLeast 0
 
   pub first_clutch : (g : ℕ) → g < groups at → (first : IsFirstUnit at.ranks g) → IsFirstClutch s (lane at.bucket false) (unit_of at g)
   first_clutch g within first =
-      let mine = key_is g within first.key first.there in
+      let mine = key_is g within first.key first.stands in
       record {
         bucket = refl;
         filled = filled_from s (unit_of at g) mine.has;
@@ -101,7 +101,7 @@ module _ (held : HeldAreLive 0 key_of_item key_precedes) (least : FirstIsLeast 0
   -- the priority of the first clutch bucket is that in the first key
   pub top_of_first : (g : ℕ) → g < groups at → (first : IsFirstUnit at.ranks g) → (k : Clutch) → IsFirstClutch s (lane at.bucket false) k → clutch_priority s k ≡ first.key.pri
   top_of_first g within first k other =
-      let mine = key_is g within first.key first.there in
+      let mine = key_is g within first.key first.stands in
       let own = first_clutch g within first in
       let low = ltb-false (clutch_priority s k) (clutch_priority s (unit_of at g))
       (or_parts (nat_lt (clutch_priority s k) (clutch_priority s (unit_of at g))) ((clutch_priority s (unit_of at g) == clutch_priority s k) && turn_before (turn_of s (unit_of at g)) (turn_of s k)) (other.first (unit_of at g) refl own.filled)).0 in

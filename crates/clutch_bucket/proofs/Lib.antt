@@ -10,6 +10,9 @@ pub mod Apart
 pub mod Entering
 pub mod Entered
 pub mod Leaving
-
 pub mod Left
 pub mod Best
+pub mod Slots
+pub mod Keeping
+pub mod Growing
+pub mod FirstUnit

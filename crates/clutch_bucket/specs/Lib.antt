@@ -1,3 +1,5 @@
 pub mod Ranks
 pub mod Lane
 pub mod Renewing
+pub mod UnitOrder
+pub mod KeptRanks
