@@ -16,3 +16,6 @@ pub mod Slots
 pub mod Keeping
 pub mod Growing
 pub mod FirstUnit
+pub mod New
+pub mod Stay
+pub mod Reads

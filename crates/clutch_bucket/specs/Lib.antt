@@ -3,3 +3,4 @@ pub mod Lane
 pub mod Renewing
 pub mod UnitOrder
 pub mod KeptRanks
+pub mod Laws

@@ -7,7 +7,7 @@ ghost use Rattle.flat_policy.specs.Policy.Precedence.{clutch_priority};
 ghost use Rattle.flat_policy.specs.Policy.Queue.{Clutch, Flat, clutch_entries, empty_flat, has_entries, lane, lane_entries, no_spans};
 ghost use Rattle.flat_policy.specs.Policy.WellFormed.{WellFormed};
 ghost use Rattle.link_arena.specs.Arena.{Arena as Map};
-ghost use Rattle.pairing_heap.specs.Laws.{FirstIsLeast, HeldAreLive};
+ghost use Rattle.pairing_heap.specs.Laws.{FirstIsLeast, HeldAreLive, StandsWhenEmpty};
 ghost use Rattle.thread_queue.specs.Item.{key_of_item, key_precedes};
 ghost use Rattle.thread_queue.specs.Laws.{FirstIsChosen, PushedStaysApart, RemovedIsLacked, RemovedStaysApart, SettledStaysApart};
 ghost use Rattle.thread_queue.specs.declared.item.Item.{Item as Stored};
@@ -77,6 +77,7 @@ impl LaneUnits {
         ensures stands { IfOk result (λ made. (arena : Map Stored) → LaneStands arena made) }
         ensures follows { IfOk result (λ made. (arena : Map Stored) → Follows arena made (empty_flat groups)) }
     {
+        queue_laws();
         let mut slots = Vec::new(alloc);
         slots.reserve(4096)?;
         Ok(LaneUnits {
@@ -176,6 +177,7 @@ impl LaneUnits {
 
 // What queues keep, as their laws say it.
 fn queue_laws()
+    ensures empty { StandsWhenEmpty 0 key_of_item key_precedes }
     ensures held { HeldAreLive 0 key_of_item key_precedes }
     ensures first { FirstIsLeast 0 key_of_item key_precedes }
     ensures pushed { PushedStaysApart }
@@ -183,6 +185,7 @@ fn queue_laws()
     ensures gone { RemovedIsLacked }
     ensures settled { SettledStaysApart }
 {
+    heaps::stands_when_empty::<Item, 0>();
     heaps::held_are_live::<Item, 0>();
     heaps::first_is_least::<Item, 0>();
     queues::pushed_stays_apart();

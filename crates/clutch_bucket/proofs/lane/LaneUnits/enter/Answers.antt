@@ -1,5 +1,5 @@
 -- A slot comes into its group's queue, and the key of the group's unit is renewed.
-use Rattle.std.proofs.Common.{◌≡◌, ℕ, ap, sym, ◌∙◌, subst}
+use Rattle.std.proofs.Common.{◌≡◌, ℕ, ◌<◌, ap, sym, ◌∙◌, subst}
 use Rattle.clutch_bucket.specs.Lane.{Lane, UnitsStand, groups}
 use Rattle.clutch_bucket.proofs.Entered.{enter_follows, enter_has, enter_queues, enter_stands, enters_from}
 use Rattle.clutch_bucket.proofs.Entering.{entered_units, inside_later}
