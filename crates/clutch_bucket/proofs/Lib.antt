@@ -18,4 +18,4 @@ pub mod Growing
 pub mod FirstUnit
 pub mod New
 pub mod Stay
-pub mod Reads
+pub mod Reading

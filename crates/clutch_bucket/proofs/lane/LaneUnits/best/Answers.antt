@@ -6,7 +6,7 @@ use Rattle.clutch_bucket.specs.Lane.{IsBest, Lane, no_queue, queue_at, rank_at}
 use Rattle.clutch_bucket.specs.Ranks.{IsFirstUnit}
 use Rattle.clutch_bucket.specs.declared.ranks.UnitKey.{UnitKey}
 use Rattle.clutch_bucket.proofs.Best.{best_slot, lane_empty, lane_filled, root_there}
-use Rattle.clutch_bucket.proofs.Reads.{from_some, if_some, read_at}
+use Rattle.clutch_bucket.proofs.Reading.{from_some, if_some, read_at}
 use Rattle.clutch_bucket.proofs.lane.LaneUnits.best.Goals as goal
 
 pub returns-in_err-group-clause-none : goal.returns-in_err-group-clause-none

@@ -5,7 +5,7 @@ use Rattle.clutch_bucket.specs.Lane.{Lane, rank_at}
 use Rattle.clutch_bucket.specs.Ranks.{IsFirstUnit}
 use Rattle.clutch_bucket.specs.declared.ranks.UnitKey.{UnitKey}
 use Rattle.clutch_bucket.proofs.Best.{lane_empty, lane_filled, top_of_first}
-use Rattle.clutch_bucket.proofs.Reads.{from_some, one_key}
+use Rattle.clutch_bucket.proofs.Reading.{from_some, one_key}
 use Rattle.clutch_bucket.proofs.lane.LaneUnits.top.Goals as goal
 
 pub returns-in_err-group-clause-none : goal.returns-in_err-group-clause-none

@@ -3,7 +3,7 @@ use Rattle.std.proofs.Common.{◌≡◌, Option, Some, ℕ, ap, arith, subst, sy
 use Rattle.std.specs.Prelude.{IfSome}
 use Rattle.thread_queue.specs.Queue.{HasSlot, IsFirst, Queue, StandsIn}
 use Rattle.clutch_bucket.specs.Lane.{no_queue, queue_at}
-use Rattle.clutch_bucket.proofs.Reads.{from_some, read_at}
+use Rattle.clutch_bucket.proofs.Reading.{from_some, read_at}
 use Rattle.clutch_bucket.proofs.lane.LaneUnits.unit_top.Goals as goal
 
 pub overflow_add-result : goal.overflow_add-result

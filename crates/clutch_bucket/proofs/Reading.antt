@@ -1,7 +1,7 @@
 -- What is read of a lane's lists.
 use Rattle.std.proofs.Common.{◌≡◌, ℕ, ◌<◌, List, Option, Some, None, get_or, length, refl, sym, ap, ◌∙◌, subst, arith}
 use Rattle.std.specs.Prelude.{IfSome}
-use Rattle.std.proofs.lemmas.Option.{get_or_default}
+use Rattle.std.proofs.lemmas.List.{get_or_default}
 use Rattle.clutch_bucket.specs.Ranks.{IsFirstUnit}
 use Rattle.clutch_bucket.specs.declared.ranks.UnitKey.{UnitKey}
 
