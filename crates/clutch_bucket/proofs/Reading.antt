@@ -1,6 +1,6 @@
 -- What is read of a lane's lists.
 use Rattle.std.proofs.Common.{◌≡◌, ℕ, ◌<◌, List, Option, Some, None, get_or, length, refl, sym, ap, ◌∙◌, subst, arith}
-use Rattle.std.specs.Prelude.{IfSome}
+use Rattle.std.specs.Prelude.{Err, IfOk, IfSome, Ok, Result}
 use Rattle.std.proofs.lemmas.List.{get_or_default}
 use Rattle.clutch_bucket.specs.Ranks.{IsFirstUnit}
 use Rattle.clutch_bucket.specs.declared.ranks.UnitKey.{UnitKey}
@@ -20,3 +20,8 @@ pub one_key : (ranks : List (Option UnitKey)) (g : ℕ) (read : Option UnitKey) 
 one_key ranks g read key first is was =
     let e : ◌≡◌ {A = Option UnitKey} (Some first.key) (Some key) = sym first.stands ∙ (sym is ∙ was) in
     grind (arith, e)
+
+-- what holds of a result's value holds in other words too
+pub if_ok : {X E : Type 0} (P Q : X → Type 0) (r : Result X E) → ((x : X) → P x → Q x) → IfOk r P → IfOk r Q
+if_ok P Q (Ok x) h p = h x p
+if_ok P Q (Err e) h p = tt

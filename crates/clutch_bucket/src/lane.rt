@@ -78,6 +78,20 @@ impl LaneUnits {
         ensures follows { IfOk result (λ made. (arena : Map Stored) → Follows arena made (empty_flat groups)) }
     {
         queue_laws();
+        LaneUnits::empty(alloc, bucket, groups)
+    }
+
+    // The units of so many groups, all empty.
+    fn empty(alloc: Global, bucket: Bucket, groups: u8) -> Result<LaneUnits, AllocError>
+        requires groups { groups ≤ MOST_GROUPS }
+        ensures { IfOk result (λ made. made ≡ record {
+          bucket = bucket;
+          queues = replicate groups no_queue;
+          spans = replicate groups no_spans;
+          ranks = replicate groups None;
+          len = 0;
+        }) }
+    {
         let mut slots = Vec::new(alloc);
         slots.reserve(4096)?;
         Ok(LaneUnits {

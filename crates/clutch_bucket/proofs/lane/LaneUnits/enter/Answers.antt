@@ -1,6 +1,7 @@
 -- A slot comes into its group's queue, and the key of the group's unit is renewed.
 use Rattle.std.proofs.Common.{◌≡◌, ℕ, ◌<◌, ap, sym, ◌∙◌, subst}
-use Rattle.clutch_bucket.specs.Lane.{Lane, UnitsStand, groups}
+use Rattle.flat_policy.specs.Policy.Usage.{with_spans}
+use Rattle.clutch_bucket.specs.Lane.{Lane, UnitsStand, groups, spans_at}
 use Rattle.clutch_bucket.proofs.Entered.{enter_follows, enter_has, enter_queues, enter_stands, enters_from}
 use Rattle.clutch_bucket.proofs.Entering.{entered_units, inside_later}
 use Rattle.clutch_bucket.proofs.Units.{one_item}
@@ -32,7 +33,7 @@ renew-requires-clause-group g c =
     let old = c.args.arena.now in
     let new = c.add_slot.new.arena in
     let e = enters_from laws.held laws.first laws.pushed old new c.args.self.now c.add_slot.new.self c.facts-group.result.group c.args.slot c.args.ran c.args.blocked item c.requires.stands c.get.ensures c.requires.lacks is (c.requires.may item c.get.ensures) adds in
-    subst (λ (l : Lane). c.facts-group.result.group < groups l) (sym adds.is) (inside_later old new c.args.self.now c.facts-group.result.group c.args.slot item adds.queue _ e)
+    subst (λ (l : Lane). c.facts-group.result.group < groups l) (sym adds.is) (inside_later old new c.args.self.now c.facts-group.result.group c.args.slot item adds.queue (with_spans (spans_at c.args.self.now c.facts-group.result.group) c.args.ran c.args.blocked) e)
 
 pub returns-clause-stands : goal.returns-clause-stands
 returns-clause-stands g c =
