@@ -59,7 +59,7 @@ module _ (old new : Arena Item) (before : Lane) (g slot : ℕ) (item : Item) (qu
       e.stands.ranks h (subst (λ (m : ℕ). h < m) (groups_changed before g queue used (before.len + 1)) inside)
       ∙ sym (other_top old new before g h queue used (before.len + 1) e.pushes.adds.kept.values n)
 
-  inside_later : g < groups (entered_lane before g queue used)
+  pub inside_later : g < groups (entered_lane before g queue used)
   inside_later = subst (λ (m : ℕ). g < m) (sym (groups_changed before g queue used (before.len + 1))) e.within
 
   pub entered_stands : (picked : Bool) (turn : ℕ) → LaneStands new (with_renewed new picked turn g (entered_lane before g queue used))

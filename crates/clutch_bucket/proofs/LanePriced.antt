@@ -1,5 +1,5 @@
 -- A lane whose units are priced anew, one after the other.
-use Rattle.std.proofs.Common.{◌≡◌, ◌≢◌, ◌⊎◌, ℕ, ◌+◌, ◌*◌, ◌≤◌, ◌<◌, Bool, List, [], ◌∷◌, ◌++◌, Some, length, map, set, get_or, refl, sym, ap, ◌∙◌, subst, inl, inr, arith}
+use Rattle.std.proofs.Common.{◌≡◌, ◌≢◌, ◌⊎◌, ℕ, ◌+◌, ◌*◌, ◌≤◌, ◌<◌, ◌==◌, Bool, cond, Contains, List, [], ◌∷◌, ◌++◌, Option, Some, eq-eqb, length, map, set, get_or, refl, sym, ap, ◌∙◌, subst, inl, inr, arith}
 use Rattle.std.specs.Prelude.{count_by}
 use Rattle.std.proofs.lemmas.Bool.{cases_eq}
 use Rattle.std.proofs.lemmas.List.{map-append}
@@ -8,7 +8,7 @@ use Rattle.link_arena.specs.Arena.{Arena, value_at}
 use Rattle.pairing_heap.specs.Laws.{HeldAreLive}
 use Rattle.pairing_heap.specs.Tree.{Tree, leaf, node, pairs, slots}
 use Rattle.thread_queue.specs.Item.{key_of_item, key_precedes}
-use Rattle.thread_queue.specs.Laws.{StaysIn}
+use Rattle.thread_queue.specs.Laws.{StaysIn, WalkCountsSlots}
 use Rattle.pairing_heap.specs.Heap.{times_of}
 use Rattle.thread_queue.specs.Queue.{HasSlot, LacksSlot, Queue, members, times_in, walk_of}
 use Rattle.thread_queue.specs.declared.item.Item.{Item}
@@ -16,6 +16,8 @@ use Rattle.thread_queue.specs.declared.item.ItemKey.{ItemKey}
 use Rattle.clutch_bucket.specs.Lane.{Lane, OtherQueuesStay, StaysFrom, UnitsStand, groups, no_queue, queue_at, spans_at}
 use Rattle.clutch_bucket.specs.Repricing.{IsLeft, IsPriced, PricedUpTo, RepricesUnit, changed_in, changes_pri, repriced_item}
 use Rattle.clutch_bucket.proofs.Lanes.{groups_changed, queue_here, queue_other}
+use Rattle.clutch_bucket.proofs.Members.{first_member, later_member, member_cases, no_member}
+use Rattle.clutch_bucket.proofs.PricedAnew.{count_cons}
 use Rattle.clutch_bucket.proofs.UnitPriced.{PricesUnit, priced_others, priced_queues, priced_units, priced_values, requeued, requeued_is}
 use Rattle.clutch_bucket.proofs.Units.{has_still, lacks_still}
 
@@ -29,6 +31,32 @@ walk_is {X} (node key slot children rest) =
 
 pub walk_stays : (old new : Arena Item) (queue : Queue) → StaysIn old new queue → walk_of new queue ≡ walk_of old queue
 walk_stays old new queue stays = walk_is _ ∙ (ap (λ (xs : List (ItemKey × ℕ)). map (λ (p : ItemKey × ℕ). p.1) xs) stays.same ∙ sym (walk_is _))
+
+-- a member of a list counts
+member_counts : (xs : List ℕ) (x : ℕ) → Contains xs x → 0 < count_by (λ other. other == x) xs
+member_counts [] x c = absurd (no_member x c)
+member_counts (y ∷ ys) x c =
+    let first = count_cons (λ other. other == x) y ys in
+    elim (member_cases y ys x c) [
+      | inl is ↦ (let one = ap {B = ℕ} (λ (b : Bool). cond b 1 0) (eq-eqb y x is) in omega (arith, first, one))
+      | inr d ↦ (let rest = member_counts ys x d in omega (arith, first, rest))
+    ]
+
+-- tests that agree on the members of a list count as many
+pub count_same : {X : Type 0} (p q : X → Bool) (xs : List X) → ((x : X) → Contains xs x → p x ≡ q x) → count_by p xs ≡ count_by q xs
+count_same p q [] each = refl
+count_same p q (x ∷ xs) each =
+    count_cons p x xs
+    ∙ (ap (λ (b : Bool). cond b 1 0 + count_by p xs) (each x (first_member x xs))
+    ∙ (ap (λ (n : ℕ). cond (q x) 1 0 + n) (count_same p q xs (λ y c. each y (later_member x xs y c))) ∙ sym (count_cons q x xs)))
+
+-- as many priorities of a queue's slots change where the queue and its values stay
+pub changed_stays : WalkCountsSlots → (old new : Arena Item) (queue later : Queue) (now : ℕ) → IsLeft old new queue later → changed_in new later now ≡ changed_in old queue now
+changed_stays walk old new queue later now left =
+    ap (λ (x : Queue). changed_in new x now) left.same
+    ∙ (ap (λ (xs : List ℕ). count_by (λ slot. changes_pri queue.count now (value_at new slot)) xs) (walk_stays old new queue left.stays)
+    ∙ count_same (λ slot. changes_pri queue.count now (value_at new slot)) (λ slot. changes_pri queue.count now (value_at old slot)) (walk_of old queue) (λ slot c.
+    ap (λ (o : Option Item). changes_pri queue.count now o) (left.values slot (let some = member_counts (walk_of old queue) slot c in let same = walk old queue slot in omega (arith, some, same)))))
 
 -- a queue is no longer than its lane
 pub count_most : (arena : Arena Item) (at : Lane) (g : ℕ) → UnitsStand arena at → g < groups at → (queue_at at g).count ≤ at.len
@@ -129,7 +157,3 @@ module _ (live : HeldAreLive 0 key_of_item key_precedes) (old mid new : Arena It
         subst (λ (l : Lane). StaysFrom old new l other) (sym is)
         (record { stays = record { stands = two.stays.stands; same = two.stays.same ∙ one.stays.same }; apart = two.apart }));
   }
-
-  -- the count of the unit at hand is as it was at first
-  pub changed_now : changed_in mid (queue_at at g) now ≡ changed_in old (queue_at before g) now
-  changed_now = ?

@@ -70,7 +70,7 @@ module _ (old new : Arena Item) (before : Lane) (g slot : ℕ) (queue : Queue) (
       e.stands.ranks h (subst (λ (m : ℕ). h < m) (groups_changed before g queue (spans_at before g) n) inside)
       ∙ sym (other_top old new before g h queue (spans_at before g) n e.removes.takes.kept.values other)
 
-  left_inside : g < groups (left_lane before g queue n)
+  pub left_inside : g < groups (left_lane before g queue n)
   left_inside = subst (λ (m : ℕ). g < m) (sym (groups_changed before g queue (spans_at before g) n)) e.within
 
   pub left_stands : n + 1 ≡ before.len → (picked : Bool) (turn : ℕ) → LaneStands new (with_renewed new picked turn g (left_lane before g queue n))

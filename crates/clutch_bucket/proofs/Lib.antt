@@ -10,6 +10,8 @@ pub mod Apart
 pub mod Entering
 pub mod Entered
 pub mod Leaving
+pub mod Left
+pub mod Best
 pub mod Slots
 pub mod Keeping
 pub mod Growing
@@ -18,3 +20,7 @@ pub mod PricedAnew
 pub mod PricedAlong
 pub mod UnitPriced
 pub mod LanePriced
+pub mod New
+pub mod Stay
+pub mod Reading
+pub mod RenewedKeys

@@ -4,3 +4,4 @@ pub mod Renewing
 pub mod UnitOrder
 pub mod KeptRanks
 pub mod Repricing
+pub mod Laws

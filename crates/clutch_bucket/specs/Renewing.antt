@@ -1,13 +1,13 @@
 -- How the keys of a lane are renewed, and what its private calls do to its queues; for private calls only.
-use Rattle.std.specs.Prelude.{Bool, None, Option, Some, false, if◌then◌else◌, not, slice_set, ℕ, ◌+◌, ◌==◌, ◌||◌, ◌≡◌}
+use Rattle.std.specs.Prelude.{Bool, None, Option, Some, false, if◌then◌else◌, not, slice_set, ℕ, ◌+◌, ◌<◌, ◌==◌, ◌||◌, ◌≡◌}
 use Rattle.flat_policy.specs.Policy.Moves.{clutch_has_entries, with_next_turn, without_turn}
 use Rattle.flat_policy.specs.Policy.Precedence.{clutch_priority}
-use Rattle.flat_policy.specs.Policy.Queue.{Clutch, Flat}
+use Rattle.flat_policy.specs.Policy.Queue.{Clutch, Flat, turn_of}
 use Rattle.flat_policy.specs.Policy.Usage.{with_spans}
 use Rattle.link_arena.specs.Arena.{Arena}
 use Rattle.thread_queue.specs.Queue.{Pushes, Queue, Removes}
 use Rattle.thread_queue.specs.declared.item.Item.{Item}
-use Rattle.clutch_bucket.specs.Lane.{Lane, queue_at, rank_at, spans_at, top_at}
+use Rattle.clutch_bucket.specs.Lane.{Lane, UnitsFollow, groups, queue_at, rank_at, rank_pri, rank_turn, spans_at, top_at, unit_of}
 use Rattle.clutch_bucket.specs.declared.ranks.UnitKey.{UnitKey}
 
 -- whether a key has this priority
@@ -58,3 +58,11 @@ pub record TakesSlot (old new : Arena Item) (before later : Lane) (group slot : 
   pub removes : Removes old new (queue_at before group) queue slot
   pub same : record later { len = before.len } ≡ record before { queues = slice_set before.queues group queue }
   pub len : later.len + 1 ≡ before.len
+
+-- the keys are those of a cluster's queue before its entries were priced anew, whose clutch buckets are filled as before, and turns are as before
+pub record KeysAreOf (arena : Arena Item) (at : Lane) (s priced : Flat) : Type 0 where
+  pub follow : UnitsFollow arena at priced
+  pub ranks : (group : ℕ) → group < groups at → rank_pri (rank_at at group) ≡ top_of s (unit_of at group)
+  pub turns : (group : ℕ) → group < groups at → turn_of priced (unit_of at group) ≡ rank_turn (rank_at at group)
+  pub kept : (group : ℕ) → group < groups at → clutch_has_entries priced (unit_of at group) ≡ clutch_has_entries s (unit_of at group)
+  pub empty : (group : ℕ) → group < groups at → clutch_has_entries s (unit_of at group) ≡ false → clutch_priority s (unit_of at group) ≡ clutch_priority priced (unit_of at group)

@@ -1,23 +1,28 @@
 //! The units of a lane, and what is asked of them.
 
-ghost use Rattle.std.specs.Prelude.{◌≡◌, ◌<◌, ◌≤◌, ◌↔◌, ◌^◌, ℕ, IfOk, IfSome, IsNone, None, false, length, replicate};
-ghost use Rattle.flat_policy.specs.Laws.Units.{IsFirstClutch};
+ghost use Rattle.std.specs.Prelude.{◌≡◌, ◌<◌, ◌≤◌, ◌↔◌, ◌+◌, ◌-◌, ◌^◌, ℕ, IfOk, IfSome, IsNone, None, false, length, replicate};
+ghost use Rattle.flat_policy.specs.Laws.Picks.{PrecedesOrders};
+ghost use Rattle.flat_policy.specs.Laws.Refreshing.{with_turns_of};
+ghost use Rattle.flat_policy.specs.Laws.Units.{FirstStandsInClutch, IsFirstClutch};
 ghost use Rattle.flat_policy.specs.Policy.Precedence.{clutch_priority};
 ghost use Rattle.flat_policy.specs.Policy.Queue.{Clutch, Flat, clutch_entries, empty_flat, has_entries, lane, lane_entries, no_spans};
 ghost use Rattle.flat_policy.specs.Policy.WellFormed.{WellFormed};
 ghost use Rattle.link_arena.specs.Arena.{Arena as Map};
-ghost use Rattle.pairing_heap.specs.Laws.{FirstIsLeast, HeldAreLive};
+ghost use Rattle.pairing_heap.specs.Laws.{FirstIsLeast, HeldAreLive, StandsWhenEmpty};
 ghost use Rattle.thread_queue.specs.Item.{key_of_item, key_precedes};
-ghost use Rattle.thread_queue.specs.Laws.{PushedStaysApart, RemovedIsLacked, RemovedStaysApart, SettledStaysApart};
+ghost use Rattle.thread_queue.specs.Laws.{FirstIsChosen, PushedStaysApart, RemovedIsLacked, RemovedStaysApart, SettledStaysApart};
 ghost use Rattle.thread_queue.specs.declared.item.Item.{Item as Stored};
 ghost use Rattle.clutch_bucket.specs.Lane.{Follows, IsBest, HasLaneSlot, LaneStands, UnitsStand, groups, no_queue, queue_at, rank_at, top_at, unit_of};
-ghost use Rattle.clutch_bucket.specs.Renewing.{is_pri, renewed_turn, with_renewed};
+ghost use Rattle.clutch_bucket.specs.Renewing.{KeysAreOf, is_pri, renewed_turn, with_renewed};
 
 mod entering;
 mod leaving;
 mod refreshing;
+#[cfg(test)]
+mod tests;
 
 use crate::{Ranks, UnitKey};
+use flat_policy::laws as policy;
 use interactivity::Stats;
 use link_arena::Arena;
 use pairing_heap::{Steps, laws as heaps};
@@ -75,6 +80,21 @@ impl LaneUnits {
         ensures stands { IfOk result (λ made. (arena : Map Stored) → LaneStands arena made) }
         ensures follows { IfOk result (λ made. (arena : Map Stored) → Follows arena made (empty_flat groups)) }
     {
+        queue_laws();
+        LaneUnits::empty(alloc, bucket, groups)
+    }
+
+    // The units of so many groups, all empty.
+    fn empty(alloc: Global, bucket: Bucket, groups: u8) -> Result<LaneUnits, AllocError>
+        requires groups { groups ≤ MOST_GROUPS }
+        ensures { IfOk result (λ made. made ≡ record {
+          bucket = bucket;
+          queues = replicate groups no_queue;
+          spans = replicate groups no_spans;
+          ranks = replicate groups None;
+          len = 0;
+        }) }
+    {
         let mut slots = Vec::new(alloc);
         slots.reserve(4096)?;
         Ok(LaneUnits {
@@ -111,6 +131,7 @@ impl LaneUnits {
         ensures none { (arena : Map Stored) (s : Flat) → Follows arena self.now s → WellFormed (groups self.now) s
             → IsNone result ↔ (has_entries s (lane self.now.bucket false) ≡ false) }
     {
+        queue_laws();
         let group = self.ranks.first()?;
         let key = self.ranks.get(group)?;
         Some(key.pri)
@@ -124,6 +145,8 @@ impl LaneUnits {
         ensures none { (s : Flat) → Follows arena.now self.now s → WellFormed (groups self.now) s
             → IsNone result ↔ (has_entries s (lane self.now.bucket false) ≡ false) }
     {
+        queue_laws();
+        order_laws();
         let group = self.ranks.first()?;
         self.queues[group as usize].first()
     }
@@ -137,6 +160,37 @@ impl LaneUnits {
         let slot = self.queues[group as usize].first()?;
         let stats = self.stats[group as usize];
         Some(arena.get(slot).pri + stats.score(self.bucket))
+    }
+
+    // How many groups have a unit.
+    fn groups(&self) -> u8
+        ensures groups { result ≡ groups self.now }
+        ensures most { result ≤ MOST_GROUPS }
+    {
+        self.queues.len() as u8
+    }
+
+    // Renews the keys of all units, in order of groups, after their entries were priced anew.
+    fn renew_all<L: Ledger>(
+        &mut self,
+        arena: &Arena<Item>,
+        turns: &mut u64,
+        steps: &mut Steps<L>,
+    )
+        requires units { UnitsStand arena.now self.old }
+        requires turn { turns.old < 2 ^ 63 - 64 }
+        ensures same { self.new ≡ record self.old { ranks = self.new.ranks } }
+        ensures stands { LaneStands arena.now self.new }
+        ensures follows { (s p : Flat) → KeysAreOf arena.now self.old s p → turns.old ≡ p.next_turn
+            → Follows arena.now self.new (with_turns_of (groups self.old) s p self.old.bucket) × (turns.new ≡ (with_turns_of (groups self.old) s p self.old.bucket).next_turn) }
+        ensures turn { turns.old ≤ turns.new }
+        ensures turn_most { turns.new ≤ turns.old + 64 }
+        ensures ticks { steps.old ≤ steps.new }
+    {
+        queue_laws();
+        for group in 0..self.groups() {
+            self.renew(arena, group, false, turns, steps);
+        }
     }
 
     // Renews the key of a group's unit, whose entries changed: the unit takes the next turn where it was picked from, was empty,
@@ -171,6 +225,7 @@ impl LaneUnits {
 
 // What queues keep, as their laws say it.
 fn queue_laws()
+    ensures empty { StandsWhenEmpty 0 key_of_item key_precedes }
     ensures held { HeldAreLive 0 key_of_item key_precedes }
     ensures first { FirstIsLeast 0 key_of_item key_precedes }
     ensures pushed { PushedStaysApart }
@@ -178,12 +233,24 @@ fn queue_laws()
     ensures gone { RemovedIsLacked }
     ensures settled { SettledStaysApart }
 {
+    heaps::stands_when_empty::<Item, 0>();
     heaps::held_are_live::<Item, 0>();
     heaps::first_is_least::<Item, 0>();
     queues::pushed_stays_apart();
     queues::removed_stays_apart();
     queues::removed_is_lacked();
     queues::settled_stays_apart();
+}
+
+// What goes first in a lane, as the laws of queues say it.
+fn order_laws()
+    ensures chosen { FirstIsChosen }
+    ensures stands { FirstStandsInClutch }
+    ensures orders { PrecedesOrders }
+{
+    queues::first_is_chosen();
+    policy::first_stands_in_clutch();
+    policy::precedes_orders();
 }
 
 // Whether a key has this priority.

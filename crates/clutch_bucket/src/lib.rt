@@ -2,6 +2,7 @@
 #![tactic(auto)]
 
 mod lane;
+pub mod laws;
 mod ranks;
 mod repricing;
 
