@@ -67,7 +67,7 @@ pub prices_begin : (old : Arena Item) (before : Lane) (now : ℕ) → UnitsStand
 prices_begin old before now stands = record {
   units = stands;
   same = refl;
-  groups = refl;
+  alike = refl;
   done = λ g inside below. absurd (omega (arith, below));
   left = λ g inside above. record { same = refl; stays = record { stands = (stands.each g inside).stands; same = refl }; values = λ slot has. refl };
   others = λ slot lacks. refl;
@@ -81,7 +81,7 @@ same_record before mid queues same = ap (λ (l : Lane). record l { queues = queu
 
 module _ (live : HeldAreLive 0 key_of_item key_precedes) (old mid new : Arena Item) (before at later : Lane) (g now : ℕ) (r : PricedUpTo old mid before at g now) (within : g < groups before) (u : RepricesUnit mid new at later g now) where
   inside : (h : ℕ) → h < groups before → h < groups at
-  inside h below = subst (λ (m : ℕ). h < m) (sym r.groups) below
+  inside h below = subst (λ (m : ℕ). h < m) (sym r.alike) below
 
   e : PricesUnit mid new at g u.queue now
   e = record { held = live; stands = r.units; within = inside g within; reprices = u.reprices }
@@ -138,7 +138,7 @@ module _ (live : HeldAreLive 0 key_of_item key_precedes) (old mid new : Arena It
   prices_step = record {
     units = subst (UnitsStand new) (sym is) (priced_units mid new at g u.queue now e);
     same = u.is ∙ (same_record before at (set at.queues g u.queue) r.same ∙ ap (λ (qs : List Queue). record before { queues = qs }) (sym (ap (λ (l : Lane). l.queues) u.is)));
-    groups = ap groups is ∙ (groups_changed at g u.queue (spans_at at g) at.len ∙ r.groups);
+    alike = ap groups is ∙ (groups_changed at g u.queue (spans_at at g) at.len ∙ r.alike);
     done = λ h below small. elim (cases_eq h g) [
       | inl same ↦ subst (λ (i : ℕ). IsPriced old new (queue_at before i) (queue_at later i) now) (sym same) (subst (λ (x : Queue). IsPriced old new (queue_at before g) x now) (sym here_is) priced_now)
       | inr n ↦ subst (λ (x : Queue). IsPriced old new (queue_at before h) x now) (sym (other_is h n)) (priced_still h below n (r.done h below (omega (arith, small, n))))

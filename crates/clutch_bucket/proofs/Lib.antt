@@ -24,3 +24,4 @@ pub mod New
 pub mod Stay
 pub mod Reading
 pub mod RenewedKeys
+pub mod Repriced

@@ -31,12 +31,17 @@ numbers_more (suc n) first =
     ap (λ (ms : List ℕ). first ∷ ms) (numbers_more n (suc first) ∙ ap (λ (m : ℕ). numbers_from (suc first) n ++ m ∷ []) e)
 
 
+abbrev group_clutch : Bucket → ℕ → Clutch
+group_clutch b g = record { group = g; bucket = b }
+
 -- one more clutch bucket takes its turn
 turns_more : (n : ℕ) (s p : Flat) (b : Bucket) → with_turns_of (suc n) s p b ≡ turn_on_refresh s (with_turns_of n s p b) (record { group = n; bucket = b })
 turns_more n s p b =
-    ap (λ (ms : List ℕ). fold (turn_on_refresh s) p (map (λ (g : ℕ). record { group = g; bucket = b }) ms)) (numbers_more n 0)
-    ∙ (ap (fold (turn_on_refresh s) p) (map-append (λ (g : ℕ). record { group = g; bucket = b }) (numbers_from 0 n) ((0 + n) ∷ []))
-    ∙ fold-append (turn_on_refresh s) p (map (λ (g : ℕ). record { group = g; bucket = b }) (numbers_from 0 n)) (record { group = 0 + n; bucket = b } ∷ []))
+    let e : 0 + n ≡ n = omega arith in
+    ap (λ (ms : List ℕ). fold (turn_on_refresh s) p (map (group_clutch b) ms)) (numbers_more n 0)
+    ∙ (ap (fold (turn_on_refresh s) p) (map-append (group_clutch b) (numbers_from 0 n) ((0 + n) ∷ []))
+    ∙ (fold-append (turn_on_refresh s) p (map (group_clutch b) (numbers_from 0 n)) (map (group_clutch b) ((0 + n) ∷ []))
+    ∙ ap (λ (m : ℕ). turn_on_refresh s (with_turns_of n s p b) (record { group = m; bucket = b })) e))
 
 -- what a cluster's queue shares with the one whose turns are renewed, and its turns by these keys
 pub record TurnedTo (at : Lane) (ranks : List (Option UnitKey)) (x p : Flat) (turn : ℕ) : Type 0 where

@@ -43,7 +43,7 @@ module _ (old new : Arena Item) (before : Lane) (g : ℕ) (queue : Queue) (now :
   priced_law = λ other any there apart. e.reprices.queues other there apart
 
   pub priced_others : (h : ℕ) → h < groups before → h ≢ g → StaysIn old new (queue_at before h)
-  priced_others = others_stay (λ other. Unit {0}) old new before g queue e.held e.stands e.within priced_law (λ h inside. ())
+  priced_others = others_stay (λ other. Unit {0}) old new before g queue e.held e.stands e.within priced_law (λ h inside. tt)
 
   pub priced_values : (h : ℕ) → h < groups before → h ≢ g → ValuesStay old new (queue_at before h)
   priced_values h inside n = λ slot has. e.reprices.others slot (apart_within e.held old before h g e.stands inside e.within (λ same. n (sym same)) slot has)
@@ -72,5 +72,5 @@ module _ (old new : Arena Item) (before : Lane) (g : ℕ) (queue : Queue) (now :
 
   pub priced_queues : OtherQueuesStay old new before (requeued before g queue)
   priced_queues = λ other there apart.
-      let kept = stays_from (λ q. Unit {0}) old new before g queue (spans_at before g) before.len e.held e.stands e.within priced_law (λ h inside. ()) other () there apart in
+      let kept = stays_from (λ q. Unit {0}) old new before g queue (spans_at before g) before.len e.held e.stands e.within priced_law (λ h inside. tt) other tt there apart in
       record { stays = kept.stays; apart = kept.apart }

@@ -76,7 +76,7 @@ pub record IsLeft (old new : Arena Item) (queue later : Queue) : Type 0 where
 pub record PricedUpTo (old new : Arena Item) (before later : Lane) (upto now : ℕ) : Type 0 where
   pub units : UnitsStand new later
   pub same : later ≡ record before { queues = later.queues }
-  pub groups : groups later ≡ groups before
+  pub alike : groups later ≡ groups before
   pub done : (group : ℕ) → group < groups before → group < upto → IsPriced old new (queue_at before group) (queue_at later group) now
   pub left : (group : ℕ) → group < groups before → upto ≤ group → IsLeft old new (queue_at before group) (queue_at later group)
   pub others : (slot : ℕ) → LacksLaneSlot old before slot → value_at new slot ≡ value_at old slot

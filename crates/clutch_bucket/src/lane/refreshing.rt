@@ -16,7 +16,7 @@ use crate::refresh_queue;
 use link_arena::Arena;
 use pairing_heap::Steps;
 use std::sync::ledger::Ledger;
-use thread_queue::Item;
+use thread_queue::{Item, laws as queues};
 
 impl LaneUnits {
     /// Prices every entry anew at the moment `now` (microseconds), and tells how many priorities changed. In order of groups, each
@@ -71,8 +71,9 @@ impl LaneUnits {
         ensures ticks { steps.old ≤ steps.new }
     {
         queue_laws();
+        queues::walk_counts_slots();
         let mut changed = 0;
-        for group in 0..self.queues.len() as u8 {
+        for group in 0..self.groups() {
             changed += self.reprice_unit(arena, group, now, steps);
         }
         changed

@@ -19,14 +19,14 @@ renew-requires-clause-group g c =
     let inv = c.loop-group.invariant in
     let same = ap groups inv.lane in
     let below = c.loop-group-test.true in
-    let end = c.groups.ensures.groups in
+    let end = c.groups-group-end.ensures.groups in
     omega (arith, same, below, end)
 
 pub renew-requires-clause-turn : goal.renew-requires-clause-turn
 renew-requires-clause-turn g c =
     let high = c.loop-group.invariant.renewed.high in
     let below = c.loop-group-test.true in
-    let most = c.groups.ensures.most in
+    let most = c.groups-group-end.ensures.most in
     let turn = c.requires.turn in
     omega (arith, high, below, most, turn)
 
@@ -44,7 +44,7 @@ loop-group-preserved g c =
     let turns : c.renew.new.turns ≡ renewed_turn false turn (get_or x.ranks i None) (top_at arena at i) =
     c.renew.ensures.turn ∙ ap (λ (l : Lane). renewed_turn false turn (rank_at l i) (top_at arena l i)) inv.lane in
     let below = c.loop-group-test.true in
-    let end = c.groups.ensures.groups in
+    let end = c.groups-group-end.ensures.groups in
     let one = renews_one c.queue_laws.ensures.held c.queue_laws.ensures.first arena at c.requires.units x.ranks i c.args.turns.now turn (omega (arith, below, end)) inv.renewed in
     let next : suc i ≡ i + 1 = omega arith in
     let ticks = c.renew.ensures.ticks in
@@ -65,7 +65,7 @@ pub returns-clause-stands : goal.returns-clause-stands
 returns-clause-stands g c =
     let inv = c.loop-group.invariant in
     let over = c.loop-group-test.false in
-    let end = c.groups.ensures.groups in
+    let end = c.groups-group-end.ensures.groups in
     subst (LaneStands c.args.arena.now) (sym inv.lane) (all_stand c.args.arena.now c.args.self.now c.loop-group.self.ranks c.loop-group.group c.args.turns.now c.loop-group.turns c.requires.units (omega (arith, over, end)) inv.renewed)
 
 pub returns-clause-follows : goal.returns-clause-follows
@@ -73,12 +73,12 @@ returns-clause-follows g c = λ s p keys same.
     let inv = c.loop-group.invariant in
     let over = c.loop-group-test.false in
     let most = c.loop-group.auto.group-end in
-    let end = c.groups.ensures.groups in
+    let end = c.groups-group-end.ensures.groups in
     all_follow_by c.args.arena.now c.args.self.now c.loop-group.self c.loop-group.group c.args.turns.now c.loop-group.turns c.requires.units inv.lane (omega (arith, over, most, end)) inv.renewed s p keys same
 
 pub returns-clause-turn_most : goal.returns-clause-turn_most
 returns-clause-turn_most g c =
     let high = c.loop-group.invariant.renewed.high in
     let bound = c.loop-group.auto.group-end in
-    let most = c.groups.ensures.most in
+    let most = c.groups-group-end.ensures.most in
     omega (arith, high, bound, most)
