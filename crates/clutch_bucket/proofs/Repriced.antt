@@ -90,7 +90,7 @@ module _ (live : HeldAreLive 0 key_of_item key_precedes) (old new : Arena Item) 
           (from.0, repriced_item queue.count now from.1,
           (has, priced.values from.0 from.1 from.2.0 from.2.1, entry_now from.0 from.1 from.2.0 from.2.1 ∙ (ap (repriced s now) from.2.2 ∙ m.1.1))));
     };
-    count = priced.count ∙ (follows.count ∙ (sym (length-map (repriced s now) (clutch_entries s k)) ∙ ap (λ (es : List Queued). length es) (sym entries)));
+    count = priced.count ∙ (follows.count ∙ (sym (length-map (clutch_entries s k) (repriced s now)) ∙ ap (λ (es : List Queued). length es) (sym entries)));
     apart = λ slot other item rival has rest here there alike. (
         let a = held_before slot item has here in
         let b = held_before other rival rest there in

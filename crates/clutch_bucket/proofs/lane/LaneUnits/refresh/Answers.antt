@@ -8,11 +8,11 @@ use Rattle.clutch_bucket.proofs.lane.LaneUnits.refresh.Goals as goal
 
 pub returns-clause-follows : goal.returns-clause-follows
 returns-clause-follows g c = λ s p f formed priced turn.
-    let r = c.reprice_all.ensures.priced in
+    let r = c.reprice_all-changed.ensures.priced in
     let laws = c.queue_laws.ensures in
-    let new = c.reprice_all.new.arena in
+    let new = c.reprice_all-changed.new.arena in
     let before = c.args.self.now in
-    let mid = c.reprice_all.new.self in
+    let mid = c.reprice_all-changed.new.self in
     let last = c.renew_all.new.self in
     let after = c.renew_all.new.turns in
     let keys = keys_priced laws.held laws.first c.args.arena.now new before mid c.args.now s p c.requires.bucket f r priced in
@@ -25,21 +25,21 @@ returns-clause-changed g c = ?
 
 pub returns-clause-repriced : goal.returns-clause-repriced
 returns-clause-repriced g c = λ s slot item f formed has stored.
-    holds_repriced c.args.arena.now c.reprice_all.new.arena c.args.self.now c.reprice_all.new.self c.args.now s c.requires.bucket f c.reprice_all.ensures.priced slot item has stored
+    holds_repriced c.args.arena.now c.reprice_all-changed.new.arena c.args.self.now c.reprice_all-changed.new.self c.args.now s c.requires.bucket f c.reprice_all-changed.ensures.priced slot item has stored
 
 pub returns-clause-len : goal.returns-clause-len
-returns-clause-len g c = ap (λ (l : Lane). l.len) c.renew_all.ensures.same ∙ ap (λ (l : Lane). l.len) c.reprice_all.ensures.priced.same
+returns-clause-len g c = ap (λ (l : Lane). l.len) c.renew_all.ensures.same ∙ ap (λ (l : Lane). l.len) c.reprice_all-changed.ensures.priced.same
 
 pub returns-clause-groups : goal.returns-clause-groups
 returns-clause-groups g c = record {
-  bucket = ap (λ (l : Lane). l.bucket) c.renew_all.ensures.same ∙ ap (λ (l : Lane). l.bucket) c.reprice_all.ensures.priced.same;
-  groups = ap groups c.renew_all.ensures.same ∙ c.reprice_all.ensures.priced.alike;
+  bucket = ap (λ (l : Lane). l.bucket) c.renew_all.ensures.same ∙ ap (λ (l : Lane). l.bucket) c.reprice_all-changed.ensures.priced.same;
+  groups = ap groups c.renew_all.ensures.same ∙ c.reprice_all-changed.ensures.priced.alike;
 }
 
 pub returns-clause-queues : goal.returns-clause-queues
 returns-clause-queues g c = λ other there apart.
-    let kept = c.reprice_all.ensures.priced.queues other there apart in
+    let kept = c.reprice_all-changed.ensures.priced.queues other there apart in
     record {
       stays = kept.stays;
-      apart = subst (λ (l : Lane). IsApartFrom c.reprice_all.new.arena l other) (sym c.renew_all.ensures.same) kept.apart;
+      apart = subst (λ (l : Lane). IsApartFrom c.reprice_all-changed.new.arena l other) (sym c.renew_all.ensures.same) kept.apart;
     }

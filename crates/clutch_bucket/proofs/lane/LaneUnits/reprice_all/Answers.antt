@@ -8,18 +8,18 @@ use Rattle.clutch_bucket.proofs.lane.LaneUnits.reprice_all.Goals as goal
 pub loop-group-init : goal.loop-group-init
 loop-group-init g c = record { priced = prices_begin c.args.arena.now c.args.self.now c.args.now c.requires.units; changed = refl; most = omega arith; ticks = omega arith }
 
-pub reprice_unit-requires-clause-units : goal.reprice_unit-requires-clause-units
-reprice_unit-requires-clause-units g c = c.loop-group.invariant.priced.units
+pub reprice_unit-changed-requires-clause-units : goal.reprice_unit-changed-requires-clause-units
+reprice_unit-changed-requires-clause-units g c = c.loop-group.invariant.priced.units
 
-pub reprice_unit-requires-clause-group : goal.reprice_unit-requires-clause-group
-reprice_unit-requires-clause-group g c =
+pub reprice_unit-changed-requires-clause-group : goal.reprice_unit-changed-requires-clause-group
+reprice_unit-changed-requires-clause-group g c =
     let alike = c.loop-group.invariant.priced.alike in
     let below = c.loop-group-test.true in
     let end = c.groups-group-end.ensures.groups in
     omega (arith, alike, below, end)
 
-pub reprice_unit-requires-clause-room : goal.reprice_unit-requires-clause-room
-reprice_unit-requires-clause-room g c =
+pub reprice_unit-changed-requires-clause-room : goal.reprice_unit-changed-requires-clause-room
+reprice_unit-changed-requires-clause-room g c =
     let same = ap (λ (l : Lane). l.len) c.loop-group.invariant.priced.same in
     let room = c.requires.room in
     omega (arith, same, room)
@@ -34,7 +34,7 @@ overflow_add-changed g c =
     let limit = c.groups-group-end.ensures.most in
     let alike = inv.priced.alike in
     let count = count_most c.loop-group.arena c.loop-group.self i inv.priced.units (omega (arith, alike, below, end)) in
-    let most = c.reprice_unit.ensures.most in
+    let most = c.reprice_unit-changed.ensures.most in
     let so_far = inv.most in
     let room = c.requires.room in
     omega (arith, same, below, limit, count, most, so_far, room)
@@ -53,18 +53,18 @@ loop-group-preserved g c =
     let alike = inv.priced.alike in
     let same = ap (λ (l : Lane). l.len) inv.priced.same in
     let count = count_most mid at i inv.priced.units (omega (arith, alike, within)) in
-    let most = c.reprice_unit.ensures.most in
+    let most = c.reprice_unit-changed.ensures.most in
     let so_far = inv.most in
     let room = c.requires.room in
-    let is : c.reprice_unit.result ≡ changed_in old (queue_at before i) c.args.now =
-    c.reprice_unit.ensures.changed ∙ changed_stays c.walk_counts_slots.ensures old mid (queue_at before i) (queue_at at i) c.args.now (inv.priced.left i within (omega arith)) in
+    let is : c.reprice_unit-changed.result ≡ changed_in old (queue_at before i) c.args.now =
+    c.reprice_unit-changed.ensures.changed ∙ changed_stays c.walk_counts_slots.ensures old mid (queue_at before i) (queue_at at i) c.args.now (inv.priced.left i within (omega arith)) in
     let next : suc i ≡ i + 1 = omega arith in
-    let sum : c.loop-group.changed + c.reprice_unit.result ≡ changed_upto old before c.args.now i + changed_in old (queue_at before i) c.args.now = (let was = inv.changed in omega (arith, is, was)) in
-    let ticks = c.reprice_unit.ensures.ticks in
+    let sum : c.loop-group.changed + c.reprice_unit-changed.result ≡ changed_upto old before c.args.now i + changed_in old (queue_at before i) c.args.now = (let was = inv.changed in omega (arith, is, was)) in
+    let ticks = c.reprice_unit-changed.ensures.ticks in
     let ticked = inv.ticks in
     record {
-      priced = prices_step c.queue_laws.ensures.held old mid c.reprice_unit.new.arena before at c.reprice_unit.new.self i c.args.now inv.priced within c.reprice_unit.ensures.reprices;
-      changed = subst (λ (n : ℕ). c.loop-group.changed + c.reprice_unit.result ≡ changed_upto old before c.args.now n) next sum;
+      priced = prices_step c.queue_laws.ensures.held old mid c.reprice_unit-changed.new.arena before at c.reprice_unit-changed.new.self i c.args.now inv.priced within c.reprice_unit-changed.ensures.reprices;
+      changed = subst (λ (n : ℕ). c.loop-group.changed + c.reprice_unit-changed.result ≡ changed_upto old before c.args.now n) next sum;
       most = omega (arith, same, count, most, so_far, room);
       ticks = omega (arith, ticks, ticked);
     }
