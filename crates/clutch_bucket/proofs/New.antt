@@ -11,10 +11,10 @@ use Rattle.pairing_heap.specs.Heap.{times_of}
 use Rattle.pairing_heap.specs.Laws.{FirstIsLeast, StandsWhenEmpty}
 use Rattle.thread_queue.specs.Item.{entry_of, key_of_item, key_precedes}
 use Rattle.thread_queue.specs.Laws.{AreEntries}
-use Rattle.thread_queue.specs.Queue.{HasSlot, Queue, StandsIn, members}
+use Rattle.thread_queue.specs.Queue.{HasSlot, LacksSlot, Queue, StandsIn, members}
 use Rattle.thread_queue.specs.declared.item.Item.{Item}
 use Rattle.thread_queue.specs.declared.item.ItemKey.{ItemKey}
-use Rattle.clutch_bucket.specs.Lane.{Follows, Lane, LaneStands, UnitFollows, UnitStands, groups, no_queue, queue_at, rank_at, rank_pri, rank_turn, slot_top, spans_at, top_at, unit_of}
+use Rattle.clutch_bucket.specs.Lane.{Follows, LacksLaneSlot, Lane, LaneStands, UnitFollows, UnitStands, groups, no_queue, queue_at, rank_at, rank_pri, rank_turn, slot_top, spans_at, top_at, unit_of}
 use Rattle.clutch_bucket.specs.declared.ranks.UnitKey.{UnitKey}
 use Rattle.clutch_bucket.proofs.Members.{no_member}
 
@@ -34,6 +34,9 @@ module _ (empty : StandsWhenEmpty 0 key_of_item key_precedes) (least : FirstIsLe
 
   has_none : (slot : ℕ) → HasSlot arena no_queue slot → ⊥
   has_none slot has = let zero_times = ap (λ (xs : List (ItemKey × ℕ)). times_of xs slot) no_members in omega (arith, zero_times, has)
+
+  pub empty_lacks : (bucket : Bucket) (n slot : ℕ) → LacksLaneSlot arena (empty_lane bucket n) slot
+  empty_lacks bucket n slot = λ h within. subst (λ (q : Queue). LacksSlot arena q slot) (sym (same_all n h no_queue)) (ap (λ (xs : List (ItemKey × ℕ)). times_of xs slot) no_members)
 
   empty_unit : (k : Clutch) → UnitStands arena k no_queue
   empty_unit k = record {

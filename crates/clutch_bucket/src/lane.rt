@@ -17,6 +17,8 @@ ghost use Rattle.clutch_bucket.specs.Renewing.{is_pri, renewed_turn, with_renewe
 mod entering;
 mod leaving;
 mod refreshing;
+#[cfg(test)]
+mod tests;
 
 use crate::{Ranks, UnitKey};
 use flat_policy::laws as policy;
