@@ -25,3 +25,6 @@ one_key ranks g read key first is was =
 pub if_ok : {X E : Type 0} (P Q : X → Type 0) (r : Result X E) → ((x : X) → P x → Q x) → IfOk r P → IfOk r Q
 if_ok P Q (Ok x) h p = h x p
 if_ok P Q (Err e) h p = tt
+
+pub from_ok : {X E : Type 0} (P : X → Type 0) (r : Result X E) (x : X) → r ≡ Ok x → IfOk r P → P x
+from_ok P r x is h = subst (λ q. IfOk q P) is h

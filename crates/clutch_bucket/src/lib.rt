@@ -1,4 +1,12 @@
 //! The units of one unbound lane: a queue for each group, and which unit goes first.
+//!
+//! All times are whole microseconds. Only `LaneUnits::new` takes memory.
+//!
+//! ```text
+//! lane.enter(&mut arena, slot, 3000, 10_000, &mut turns, &mut steps);
+//! assert_eq!(rt; lane.best(&arena), Some(slot));
+//! lane.remove(&mut arena, slot, true, &mut turns, &mut steps);
+//! ```
 #![tactic(auto)]
 
 mod lane;
