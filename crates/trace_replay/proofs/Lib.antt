@@ -10,6 +10,7 @@ pub mod OptionReads
 pub mod Putting
 pub mod ReplayCommand
 pub mod ReplayedAgain
+pub mod SaidAgain
 pub mod SameAnswers
 pub mod Settled
 pub mod Taking

@@ -12,12 +12,8 @@ use Rattle.flat_policy.specs.declared.texts.LineFault.{LineFault}
 use Rattle.flat_policy.specs.declared.texts.Given.{Given}
 use Rattle.trace_machine.specs.Machines.{IsMachine, MachineView, Means, StepsTo}
 use Rattle.trace_machine.specs.declared.Reply.{Reply}
-use Rattle.trace_replay.specs.Traces.{Contradicts, Goes, TraceView}
+use Rattle.trace_replay.specs.Traces.{Contradicts, Goes, TraceView, moved}
 use Rattle.trace_text.specs.Writing.{AnswerFits, StepFits}
-
--- a step at the moment of a reply
-abbrev pub moved : Step → Reply → Step
-moved s told = record { moment = told.moment; actor = s.actor; act = s.act }
 
 -- the reply of the policy is that of the machine
 pub same_reply : (old mid : MachineView) (s : Step) (told : Reply) (g : MachineState) → Means old g → StepsTo old mid s told
@@ -61,3 +57,10 @@ fits_of setup r given is = grind arith
 -- a line that says a step, says one that the setup fits
 pub fitting_line : (setup : SetupParts) (line : List ℕ) (given : Given) → step_line setup line ≡ Ok given → IsTrue (fits_step setup given.step)
 fitting_line setup line given is = fits_of setup (read_step_line line) given is
+
+said_of : (setup : SetupParts) (r : Result Given LineFault) (given : Given) → and_then r (if_fits setup) ≡ Ok given → r ≡ Ok given
+said_of setup r given is = grind arith
+
+-- and reads as that
+pub said_line : (setup : SetupParts) (line : List ℕ) (given : Given) → step_line setup line ≡ Ok given → read_step_line line ≡ Ok given
+said_line setup line given is = said_of setup (read_step_line line) given is

@@ -5,7 +5,9 @@ use Rattle.flat_policy.specs.Policy.Setup.{SetupParts}
 use Rattle.flat_policy.specs.Texts.Lines.{entry_text}
 use Rattle.flat_policy.specs.Texts.Streams.{contradicts, step_line}
 use Rattle.flat_policy.specs.declared.texts.Given.{Given}
+use Rattle.sched_base.specs.declared.Step.{Step}
 use Rattle.trace_machine.specs.Machines.{IsMachine, MachineView, Means}
+use Rattle.trace_machine.specs.declared.Reply.{Reply}
 use Rattle.trace_replay.specs.declared.status.ReplayStatus.{ReplayStatus}
 use Rattle.trace_replay.specs.declared.status.ReplayStatus.TheVariants.{BadLine, Differs, OutOfMemory}
 
@@ -36,6 +38,10 @@ pub record IsBegun (stated : SetupParts) (t : TraceView) : Type 0 where
   pub steps : t.machine.steps ≡ 0
   pub page : t.page ≡ []
   pub line : t.line ≡ 2
+
+-- a step at the moment of a reply
+abbrev pub moved : Step → Reply → Step
+moved s told = record { moment = told.moment; actor = s.actor; act = s.act }
 
 -- a given answer does not contradict the reply to a step, in every state that the machine meant, and the reply is written
 abbrev pub Goes : TraceView → TraceView → Given → Type 0

@@ -1,13 +1,14 @@
 //! A replay under way: one line after the other.
 
-ghost use Rattle.std.specs.Prelude.{◌≡◌, ◌++◌, ◌+◌, ◌↔◌, [], IfErr, IfOk, IsTrue, OnErr, OnOk};
+ghost use Rattle.std.specs.Prelude.{◌≡◌, ◌≤◌, ◌++◌, ◌+◌, ◌↔◌, [], IfErr, IfOk, IsTrue, None, Ok, OnErr, OnOk, length};
 ghost use Rattle.std.specs.Io.KnownBytes.{Appends};
 ghost use Rattle.flat_policy.specs.Policy.Machine.{MachineState, fits_step, reply};
 ghost use Rattle.flat_policy.specs.Texts.Answers.{same_answer};
+ghost use Rattle.flat_policy.specs.Texts.Lines.{answered_text, read_step_line};
 ghost use Rattle.flat_policy.specs.Texts.Streams.{contradicts, step_line};
 ghost use Rattle.ports.specs.Devices.{AppendsPart, HasCause, StopsAtFailure};
 ghost use Rattle.trace_machine.specs.Machines.{IsMachine, Means, StepsTo};
-ghost use Rattle.trace_replay.specs.Traces.{Answers, CanAnswer, CanEnd, IsBegun, Stays, StopsLine, StopsTake, Takes, setup_of};
+ghost use Rattle.trace_replay.specs.Traces.{Answers, CanAnswer, CanEnd, IsBegun, Stays, StopsLine, StopsTake, Takes, moved, setup_of};
 ghost use Rattle.trace_text.specs.Pages.{HasRoom};
 ghost use Rattle.trace_text.specs.Writing.{AnswerFits, StepFits};
 
@@ -20,10 +21,10 @@ use ports::{Failed, Sink, put_all};
 use sched_base::{Answer, Step};
 use std::alloc::{AllocError, Global};
 use std::marker::Model;
-use trace_machine::Machine;
 use trace_machine::laws::blocked_are_live;
-use trace_text::laws::replies_have_texts;
-use trace_text::{Page, read_step};
+use trace_machine::{Machine, Reply};
+use trace_text::laws::{lines_are_exact, replies_have_texts};
+use trace_text::{Page, STEP_ROOM, read_step};
 
 /// The number of the first line behind the setup line.
 const FIRST_LINE: u64 = 2;
@@ -59,6 +60,56 @@ fn contradicts(given: &Option<Answer>, answer: &Answer) -> bool
     match given {
         Some(given) => !is_same(given, answer),
         None => false,
+    }
+}
+
+/// Whether a setup fits a step. It's a call of its own, so that a step stays whole where it was read.
+#[inline(never)]
+fn is_fitting(setup: &Setup, step: &Step) -> bool
+    ensures { result ≡ fits_step setup.now step.now }
+{
+    setup.fits(step)
+}
+
+/// Whether a line is the text of a step alone, at the moment of its reply, and not too long for it.
+fn is_reply_text(line: &[u8], given: &Given, reply: &Reply) -> bool
+    ensures short { IsTrue result → length line.now ≤ STEP_ROOM }
+    ensures moment { IsTrue result → given.now.step.moment ≡ reply.now.moment }
+    ensures alone { IsTrue result → given.now.answer ≡ None }
+{
+    given.step.moment == reply.moment && given.answer.is_none() && line.len() <= STEP_ROOM
+}
+
+/// Writes a step with its effective moment and its answer onto a page.
+#[inline(never)]
+fn write_moved(page: &mut Page, given: &Given, reply: &Reply)
+    requires room { HasRoom page.old }
+    requires step { StepFits (moved given.now.step reply.now) }
+    requires answer { AnswerFits reply.now.answer }
+    ensures { page.new ≡ page.old ++ answered_text (moved given.now.step reply.now) reply.now.answer }
+{
+    let step = Step {
+        moment: reply.moment,
+        ..given.step
+    };
+    page.write_line(&step, &reply.answer);
+}
+
+/// Writes the step that a line says onto a page, with its effective moment and its answer. Each step
+/// has one text, so where its moment stays the line itself is written again.
+#[tactic(auto, using(crate::proofs::SaidAgain::reply_again))]
+fn write_reply(page: &mut Page, line: &[u8], given: &Given, reply: &Reply)
+    requires says { read_step_line line.now ≡ Ok given.now }
+    requires room { HasRoom page.old }
+    requires step { StepFits (moved given.now.step reply.now) }
+    requires answer { AnswerFits reply.now.answer }
+    ensures { page.new ≡ page.old ++ answered_text (moved given.now.step reply.now) reply.now.answer }
+{
+    lines_are_exact();
+    if is_reply_text(line, given, reply) {
+        page.write_again(line, &reply.answer);
+    } else {
+        write_moved(page, given, reply);
     }
 }
 
@@ -120,7 +171,7 @@ impl<C: Cluster> Trace<C> {
         ensures { result ≡ step_line (setup_of self.now) line.now }
     {
         let given = read_step(line)?;
-        if self.machine.setup().fits(&given.step) {
+        if is_fitting(self.machine.setup(), &given.step) {
             Ok(given)
         } else {
             Err(LineFault::Range)
@@ -138,11 +189,13 @@ impl<C: Cluster> Trace<C> {
         replies_have_texts();
     }
 
-    /// Takes a step that the setup fits, and writes it with its answer onto the page.
+    /// Takes the step that a line says and the setup fits, and writes it with its answer onto the
+    /// page.
     ///
     /// Errors: `Differs` where another answer is given, and `OutOfMemory`. Then nothing is written.
-    fn take(&mut self, given: &Given) -> Result<(), ReplayStatus>
+    fn take(&mut self, line: &[u8], given: &Given) -> Result<(), ReplayStatus>
         requires ready { CanAnswer self.old }
+        requires says { read_step_line line.now ≡ Ok given.now }
         requires fits { IsTrue (fits_step (setup_of self.old) given.now.step) }
         requires room { HasRoom self.old.page }
         ensures ok { OnOk result (Takes self.old self.new given.now) }
@@ -153,11 +206,7 @@ impl<C: Cluster> Trace<C> {
         if contradicts(&given.answer, &reply.answer) {
             return Err(ReplayStatus::Differs { line: self.line });
         }
-        let step = Step {
-            moment: reply.moment,
-            ..given.step
-        };
-        self.page.write_line(&step, &reply.answer);
+        write_reply(&mut self.page, line, given, &reply);
         self.line += 1;
         Ok(())
     }
@@ -167,6 +216,7 @@ impl<C: Cluster> Trace<C> {
     ///
     /// Errors: `BadLine` where it is outside the grammar or the setup doesn't fit it, `Differs`
     /// where another answer is given, and `OutOfMemory`. Then nothing is written.
+    #[inline(never)]
     pub(crate) fn answer_line(&mut self, line: &[u8]) -> Result<(), ReplayStatus>
         requires ready { CanAnswer self.old }
         requires room { HasRoom self.old.page }
@@ -174,7 +224,7 @@ impl<C: Cluster> Trace<C> {
         ensures err { IfErr result (λ status. StopsLine self.old line.now status × Stays self.old self.new) }
     {
         match self.given(line) {
-            Ok(given) => self.take(&given),
+            Ok(given) => self.take(line, &given),
             Err(what) => Err(ReplayStatus::BadLine {
                 line: self.line,
                 what,

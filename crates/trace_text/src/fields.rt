@@ -1,6 +1,6 @@
 //! The fields of lines: each a value and the pieces after it.
 
-ghost use Rattle.std.specs.Prelude.{◌≡◌, ◌≤◌, IfOk};
+ghost use Rattle.std.specs.Prelude.{◌≡◌, ◌≤◌, IfOk, IfSome, Ok};
 ghost use Rattle.flat_policy.specs.Texts.Pieces.{
   most_of_32,
   number_within,
@@ -14,11 +14,12 @@ ghost use Rattle.flat_policy.specs.Texts.Pieces.{
   bound_at,
   bucket_at,
   end_at,
+  pieces,
 };
 ghost use Rattle.trace_text.specs.Reading.{Gives, left};
 
 use crate::numerals::read_numeral;
-use crate::pieces::{Pieces, next, next_number};
+use crate::pieces::{Pieces, behind_word, next, next_digit, next_number};
 use crate::words::{bucket_of, end_of};
 use flat_policy::texts::LineFault;
 use sched_base::Bucket;
@@ -42,6 +43,15 @@ fn exact_number_at(pieces: Pieces<'_>, most: u64) -> Result<(u64, Pieces<'_>), L
     Ok((number, rest))
 }
 
+/// The same, from a frame of its own: so numbers that are read at once make none of what it hands over.
+#[inline(always)]
+fn other_number_at(pieces: Pieces<'_>, most: u64) -> Result<(u64, Pieces<'_>), LineFault>
+    ensures exact { Gives (λ x. (x.0, left x.1)) result (next_piece (number_within most) (left pieces.entry)) }
+    ensures most { IfOk result (λ x. x.0 ≤ most) }
+{
+    exact_number_at(pieces, most)
+}
+
 /// A number of at most so much.
 #[inline(always)]
 pub fn number_at(pieces: Pieces<'_>, most: u64) -> Result<(u64, Pieces<'_>), LineFault>
@@ -51,17 +61,36 @@ pub fn number_at(pieces: Pieces<'_>, most: u64) -> Result<(u64, Pieces<'_>), Lin
     match next_number(pieces) {
         Some((number, rest)) if number <= most => Ok((number, rest)),
         // Short numerals in range are read above; this names the fault, or reads a long one.
-        _ => exact_number_at(pieces, most),
+        _ => other_number_at(pieces, most),
     }
 }
 
-/// A number of at most so much, in a byte.
-#[inline(always)]
-pub fn small_at(pieces: Pieces<'_>, most: u8) -> Result<(u8, Pieces<'_>), LineFault>
+/// A number of at most so much, in a byte, however many digits it has.
+#[inline(never)]
+fn any_small_at(pieces: Pieces<'_>, most: u8) -> Result<(u8, Pieces<'_>), LineFault>
     ensures { Gives (λ x. (x.0, left x.1)) result (next_piece (number_within most) (left pieces.entry)) }
 {
     let (number, rest) = number_at(pieces, u64::from(most))?;
     Ok((number as u8, rest))
+}
+
+/// The same, from a frame of its own.
+#[inline(always)]
+fn other_small_at(pieces: Pieces<'_>, most: u8) -> Result<(u8, Pieces<'_>), LineFault>
+    ensures { Gives (λ x. (x.0, left x.1)) result (next_piece (number_within most) (left pieces.entry)) }
+{
+    any_small_at(pieces, most)
+}
+
+/// A number of at most so much, in a byte. Nearly all have one digit.
+#[inline(always)]
+pub fn small_at(pieces: Pieces<'_>, most: u8) -> Result<(u8, Pieces<'_>), LineFault>
+    ensures { Gives (λ x. (x.0, left x.1)) result (next_piece (number_within most) (left pieces.entry)) }
+{
+    match next_digit(pieces) {
+        Some((number, rest)) if number <= most => Ok((number, rest)),
+        _ => other_small_at(pieces, most),
+    }
 }
 
 /// A number of 32 bits.
@@ -138,11 +167,51 @@ pub fn bucket_at(pieces: Pieces<'_>) -> Result<(Bucket, Pieces<'_>), LineFault>
     Ok((bucket, rest))
 }
 
+/// The end that the next piece names, where it names one.
 #[inline(always)]
-pub fn end_at(pieces: Pieces<'_>) -> Result<(bool, Pieces<'_>), LineFault>
+fn named_end_at(text: &[u8]) -> Option<(bool, Pieces<'_>)>
+    ensures { IfSome result (λ x. end_at (pieces text.now) ≡ Ok (x.0, left x.1)) }
+{
+    if let Some(rest) = behind_word(text, b"tail") {
+        return Some((false, rest));
+    }
+    if let Some(rest) = behind_word(text, b"head") {
+        return Some((true, rest));
+    }
+    None
+}
+
+/// An end of a queue, by its piece whole.
+#[inline(never)]
+fn any_end_at(pieces: Pieces<'_>) -> Result<(bool, Pieces<'_>), LineFault>
     ensures { Gives (λ x. (x.0, left x.1)) result (end_at (left pieces.entry)) }
 {
     let (piece, rest) = next(pieces)?;
     let head = end_of(piece).ok_or(LineFault::Word)?;
     Ok((head, rest))
+}
+
+/// The same, from a frame of its own.
+#[inline(always)]
+fn other_end_at(pieces: Pieces<'_>) -> Result<(bool, Pieces<'_>), LineFault>
+    ensures { Gives (λ x. (x.0, left x.1)) result (end_at (left pieces.entry)) }
+{
+    any_end_at(pieces)
+}
+
+#[inline(always)]
+fn next_end(pieces: Pieces<'_>) -> Option<(bool, Pieces<'_>)>
+    ensures { IfSome result (λ x. end_at (left pieces.entry) ≡ Ok (x.0, left x.1)) }
+{
+    named_end_at(pieces.rest?)
+}
+
+#[inline(always)]
+pub fn end_at(pieces: Pieces<'_>) -> Result<(bool, Pieces<'_>), LineFault>
+    ensures { Gives (λ x. (x.0, left x.1)) result (end_at (left pieces.entry)) }
+{
+    match next_end(pieces) {
+        Some(found) => Ok(found),
+        None => other_end_at(pieces),
+    }
 }

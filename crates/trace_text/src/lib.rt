@@ -28,7 +28,7 @@ pub use flat_policy::texts::{Given, LineFault, Power, ProgramLine, RunLine};
 pub use line_out::LineOut;
 pub use lines::read_step;
 pub use numerals::read_numeral;
-pub use page::Page;
+pub use page::{Page, STEP_ROOM};
 pub use pieces::piece;
 pub use runs::{read_program, read_run};
 pub use writing::{write_answer, write_bare, write_step};

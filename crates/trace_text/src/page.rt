@@ -3,7 +3,7 @@
 ghost use Rattle.std.specs.Prelude.{◌≡◌, ◌≤◌, ◌+◌, ◌++◌, ◌↔◌, List, ℕ, [], IfOk, IsTrue, length, take};
 ghost use Rattle.flat_policy.specs.Texts.Lines.{answered_text};
 ghost use Rattle.trace_text.specs.Pages.{HasRoom, line_room, page_bytes};
-ghost use Rattle.trace_text.specs.Writing.{AnswerFits, StepFits};
+ghost use Rattle.trace_text.specs.Writing.{AnswerFits, StepFits, answer_part};
 
 use crate::placing::put;
 use crate::writing::{put_answer_part, put_step};
@@ -17,6 +17,9 @@ pub const PAGE_BYTES: usize = 16_384;
 
 /// How many bytes of room are surely enough for the line of a step and its answer.
 pub const LINE_ROOM: usize = 160;
+
+/// How many bytes of that room are enough for the step alone.
+pub const STEP_ROOM: usize = 57;
 
 /// A fixed buffer of 16,384 bytes on the heap, for output that is gathered until it is put. Once it
 /// is made it takes no memory.
@@ -102,6 +105,18 @@ impl Page {
         ensures { self.new ≡ self.old ++ answered_text step.now answer.now }
     {
         let end = put_step(&mut self.bytes, self.len, step);
+        self.len = put_answer_part(&mut self.bytes, end, answer);
+    }
+
+    /// Appends the text of a step that is at hand, and behind it the rest of its line: ` = `, the
+    /// answer's text and a newline. The answer's numbers are in the ranges of lines.
+    pub fn write_again(&mut self, text: &[u8], answer: &Answer)
+        requires room { HasRoom self.old }
+        requires short { length text.now ≤ STEP_ROOM }
+        requires answer { AnswerFits answer.now }
+        ensures { self.new ≡ self.old ++ text.now ++ answer_part answer.now }
+    {
+        let end = put(&mut self.bytes, self.len, text);
         self.len = put_answer_part(&mut self.bytes, end, answer);
     }
 }

@@ -118,6 +118,24 @@ pub fn next_number(pieces: Pieces<'_>) -> Option<(u64, Pieces<'_>)>
     Some((number, rest))
 }
 
+/// The number that the next piece writes, and the pieces behind it, where that piece is one digit.
+#[inline(always)]
+#[tactic(auto, using(crate::proofs::OneDigit::digit_front))]
+pub fn next_digit(pieces: Pieces<'_>) -> Option<(u8, Pieces<'_>)>
+    ensures { IfSome result (λ x. IsNumberNext (left pieces.entry) x.0 (left x.1)) }
+{
+    let text = pieces.rest?;
+    if text.is_empty() {
+        return None;
+    }
+    let digit = text[0];
+    if !digit.is_ascii_digit() {
+        return None;
+    }
+    let rest = behind(&text[1..])?;
+    Some((digit - b'0', rest))
+}
+
 /// Whether no piece is left.
 pub fn is_done(pieces: Pieces<'_>) -> bool
     ensures { IsTrue result ↔ (left pieces.entry ≡ []) }

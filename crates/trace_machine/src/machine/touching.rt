@@ -10,7 +10,9 @@ use flat_policy::cluster::Cluster;
 use sched_base::Answer;
 
 impl<K: Cluster> Machine<K> {
-    /// Prices the entries of the home's queue anew.
+    /// Prices the entries of the home's queue anew. It's rare and needs large tables, which the frame
+    /// of a step is not to hold.
+    #[inline(never)]
     pub(crate) fn refresh(&mut self, actor: u8, now: u64) -> Answer
         requires { IsSet self.old actor now acts.Refresh }
         ensures { Acts self.old self.new actor now acts.Refresh result }

@@ -1,0 +1,13 @@
+pub mod Held
+pub mod Changes
+pub mod Pushed
+pub mod PushedEntries
+pub mod Removed
+pub mod RemovedEntries
+pub mod Best
+pub mod Stays
+pub mod Pushing
+pub mod Removing
+pub mod Changed
+pub mod Clearing
+pub mod ClearingOn
