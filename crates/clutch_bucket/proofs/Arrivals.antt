@@ -29,10 +29,10 @@ one_of_arrival (z ∷ zs) rise x y cx cy same =
       ]
     ]
 
-stays_later : (a : ℕ) (x : Queued) (xs : List Queued) → x.arrival ≢ a → without a (x ∷ xs) ≡ x ∷ without a xs
+pub stays_later : (a : ℕ) (x : Queued) (xs : List Queued) → x.arrival ≢ a → without a (x ∷ xs) ≡ x ∷ without a xs
 stays_later a x xs n = cond-true (not (x.arrival == a)) (x ∷ without a xs) (without a xs) (not_from_false (x.arrival == a) (ne_eqb x.arrival a n))
 
-goes_here : (a : ℕ) (x : Queued) (xs : List Queued) → x.arrival ≡ a → without a (x ∷ xs) ≡ without a xs
+pub goes_here : (a : ℕ) (x : Queued) (xs : List Queued) → x.arrival ≡ a → without a (x ∷ xs) ≡ without a xs
 goes_here a x xs e = cond-false (not (x.arrival == a)) (x ∷ without a xs) (without a xs) (not_from_true (x.arrival == a) (eq-eqb x.arrival a e))
 
 all_stay : (a : ℕ) (es : List Queued) → EachQueued (λ (f : Queued). a < f.arrival) es → without a es ≡ es

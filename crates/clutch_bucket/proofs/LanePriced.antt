@@ -33,7 +33,7 @@ pub walk_stays : (old new : Arena Item) (queue : Queue) → StaysIn old new queu
 walk_stays old new queue stays = walk_is _ ∙ (ap (λ (xs : List (ItemKey × ℕ)). map (λ (p : ItemKey × ℕ). p.1) xs) stays.same ∙ sym (walk_is _))
 
 -- a member of a list counts
-member_counts : (xs : List ℕ) (x : ℕ) → Contains xs x → 0 < count_by (λ other. other == x) xs
+pub member_counts : (xs : List ℕ) (x : ℕ) → Contains xs x → 0 < count_by (λ other. other == x) xs
 member_counts [] x c = absurd (no_member x c)
 member_counts (y ∷ ys) x c =
     let first = count_cons (λ other. other == x) y ys in

@@ -25,3 +25,5 @@ pub mod Stay
 pub mod Reading
 pub mod RenewedKeys
 pub mod Repriced
+pub mod ChangedCount
+pub mod ChangedSlots

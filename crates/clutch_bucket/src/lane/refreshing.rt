@@ -52,6 +52,8 @@ impl LaneUnits {
         ensures ticks { steps.old ≤ steps.new }
     {
         queue_laws();
+        queues::slots_stand_once();
+        queues::walk_counts_slots();
         let changed = self.reprice_all(arena, now, steps);
         self.renew_all(arena, turns, steps);
         changed

@@ -3,6 +3,7 @@ use Rattle.std.proofs.Common.{◌≡◌, ℕ, ap, sym, ◌∙◌, subst}
 use Rattle.sched_base.specs.declared.Bucket.{Bucket}
 use Rattle.flat_policy.specs.Laws.Refreshing.{with_turns_of}
 use Rattle.clutch_bucket.specs.Lane.{Follows, IsApartFrom, Lane, groups}
+use Rattle.clutch_bucket.proofs.ChangedSlots.{lane_changed}
 use Rattle.clutch_bucket.proofs.Repriced.{holds_repriced, keys_priced}
 use Rattle.clutch_bucket.proofs.lane.LaneUnits.refresh.Goals as goal
 
@@ -21,7 +22,9 @@ returns-clause-follows g c = λ s p f formed priced turn.
     (c.renew_all.ensures.follows s p keys turn))
 
 pub returns-clause-changed : goal.returns-clause-changed
-returns-clause-changed g c = ?
+returns-clause-changed g c = λ s f formed.
+    c.reprice_all-changed.ensures.changed
+    ∙ lane_changed c.walk_counts_slots.ensures c.slots_stand_once.ensures c.args.arena.now c.args.self.now c.args.now s c.requires.bucket f formed.arrivals_rise formed.groups_below
 
 pub returns-clause-repriced : goal.returns-clause-repriced
 returns-clause-repriced g c = λ s slot item f formed has stored.
