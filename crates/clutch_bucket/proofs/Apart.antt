@@ -7,7 +7,7 @@ use Rattle.link_arena.specs.Arena.{Arena, value_at}
 use Rattle.pairing_heap.specs.Laws.{HeldAreLive}
 use Rattle.thread_queue.specs.Item.{entry_of, key_of_item, key_precedes}
 use Rattle.thread_queue.specs.Laws.{QueuesApart, StaysApart, StaysIn}
-use Rattle.thread_queue.specs.Queue.{HasSlot, LacksSlot, Queue, StandsIn}
+use Rattle.thread_queue.specs.Queue.{LacksSlot, Queue, StandsIn}
 use Rattle.thread_queue.specs.declared.item.Item.{Item}
 use Rattle.clutch_bucket.specs.Lane.{IsApartFrom, Lane, LacksLaneSlot, StaysFrom, UnitsStand, groups, item_top, queue_at, slot_top, spans_at, top_at, unit_of}
 use Rattle.clutch_bucket.proofs.Clutches.{parts_of_clutch}
@@ -54,10 +54,10 @@ pub stays_from : (P : Queue → Type 0) (old new : Arena Item) (before : Lane) (
     → ((h : ℕ) → h < groups before → P (queue_at before h)) → (other : Queue) → P other → StandsIn old other → IsApartFrom old before other → StaysFrom old new (changed_at before g queue used n) other
 stays_from P old new before g queue used n live stands within law each other fits there apart =
     let free : QueuesApart old (queue_at before g) other = λ slot has. (
-        elim (has_or_lacks old other slot) [
-          | inl both ↦ absurd (not_both old (queue_at before g) slot has (apart slot both g within))
-          | inr lacks ↦ lacks
-        ]) in
+    elim (has_or_lacks old other slot) [
+      | inl both ↦ absurd (not_both old (queue_at before g) slot has (apart slot both g within))
+      | inr lacks ↦ lacks
+    ]) in
     let kept = law other fits there free in
     record {
       stays = kept.stays;

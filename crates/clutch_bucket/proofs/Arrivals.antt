@@ -1,6 +1,6 @@
 -- What remains of entries, whose arrivals rise, without those of one arrival.
 use Rattle.std.proofs.Common.{◌≡◌, ◌≢◌, ℕ, ◌+◌, ◌<◌, ◌==◌, Bool, true, false, cond, not, List, [], ◌∷◌, Contains, filter, length, refl, sym, ap, ◌∙◌, subst, inl, inr, arith, eq-eqb}
-use Rattle.std.proofs.lemmas.Bool.{cases_Bool, cond-true, cond-false, false≢true, ne_eqb, not_from_true, not_from_false}
+use Rattle.std.proofs.lemmas.Bool.{cases_Bool, cond-true, cond-false, ne_eqb, not_from_true, not_from_false}
 use Rattle.flat_policy.specs.Policy.Moves.{without}
 use Rattle.flat_policy.specs.Policy.Queue.{Queued}
 use Rattle.flat_policy.specs.Policy.WellFormed.{ArrivalsRise, EachQueued}

@@ -1,7 +1,7 @@
 -- The first unit of a lane is the first clutch bucket, and its first entry the first of the lane.
-use Rattle.std.proofs.Common.{◌≡◌, ◌≢◌, ◌↔◌, ℕ, ◌<◌, ◌≤◌, ◌==◌, Bool, true, false, cond, Contains, List, Option, Some, None, filter, is_some, refl, sym, ap, ap₂, ◌∙◌, subst, inl, inr, arith}
+use Rattle.std.proofs.Common.{◌≡◌, ℕ, ◌<◌, ◌==◌, Bool, true, false, List, Option, Some, None, filter, is_some, refl, sym, ap, ap₂, ◌∙◌, subst, inl, inr, arith}
 use Rattle.std.specs.List.{list_any}
-use Rattle.std.specs.Prelude.{IfSome, nat_lt, ◌&&◌, ◌||◌}
+use Rattle.std.specs.Prelude.{nat_lt, ◌&&◌, ◌||◌}
 use Rattle.std.proofs.lemmas.Bool.{cases_Bool, cond-true, cond-false, false≢true, ltb-false, or_parts}
 use Rattle.flat_policy.specs.Laws.Choice.{OrdersMembers}
 use Rattle.flat_policy.specs.Laws.Picks.{PrecedesOrders}
@@ -22,7 +22,7 @@ use Rattle.clutch_bucket.specs.Renewing.{top_of}
 use Rattle.clutch_bucket.specs.declared.ranks.UnitKey.{UnitKey}
 use Rattle.clutch_bucket.proofs.Arrivals.{each_of}
 use Rattle.clutch_bucket.proofs.Clutches.{clutch_by, clutch_in_lane, lane_of_clutch, parts_of_clutch}
-use Rattle.clutch_bucket.proofs.Members.{each_fails, filter_member, member_of_filter, none_passes, passing_member, some_passes}
+use Rattle.clutch_bucket.proofs.Members.{filter_member, member_of_filter, none_passes, passing_member, some_passes}
 use Rattle.clutch_bucket.proofs.Tops.{unit_top}
 
 -- a filter has members where some pass

@@ -1,10 +1,10 @@
 -- Lists of entries without two of one arrival: one whose members are members of another passes a test no more often.
-use Rattle.std.proofs.Common.{◌≡◌, ◌≢◌, ℕ, ◌+◌, ◌≤◌, ◌<◌, ◌==◌, Bool, true, false, not, cond, Contains, List, [], ◌∷◌, filter, refl, sym, ap, ◌∙◌, subst, inl, inr, arith, eq-eqb}
+use Rattle.std.proofs.Common.{◌≢◌, ℕ, ◌+◌, ◌≤◌, ◌<◌, ◌==◌, Bool, not, cond, Contains, List, [], ◌∷◌, filter, sym, ap, ◌∙◌, subst, inl, inr, arith}
 use Rattle.std.specs.Prelude.{count_by}
 use Rattle.std.proofs.lemmas.Bool.{cases_Bool, cases_eq, cond-true, cond-false, ne_eqb, not_from_false}
 use Rattle.flat_policy.specs.Policy.Moves.{without}
 use Rattle.flat_policy.specs.Policy.Queue.{Queued}
-use Rattle.flat_policy.specs.Policy.WellFormed.{ArrivalsRise, EachQueued}
+use Rattle.flat_policy.specs.Policy.WellFormed.{ArrivalsRise}
 use Rattle.clutch_bucket.proofs.Arrivals.{each_of, goes_here, stays_later}
 use Rattle.clutch_bucket.proofs.Members.{filter_member, first_member, later_member, member_cases, member_of_filter, no_member}
 use Rattle.clutch_bucket.proofs.PricedAnew.{count_cons}

@@ -7,11 +7,11 @@ use Rattle.sched_base.specs.declared.Bucket.TheVariants.{Ui}
 use Rattle.flat_policy.specs.Policy.Queue.{Clutch, Flat, Queued, clutch_entries, in_clutch, in_lane, lane, lane_entries}
 use Rattle.flat_policy.specs.Policy.Refresh.{repriced}
 use Rattle.flat_policy.specs.Policy.Usage.{Spans}
-use Rattle.flat_policy.specs.Policy.WellFormed.{ArrivalsRise, EachQueued, WellFormed}
+use Rattle.flat_policy.specs.Policy.WellFormed.{ArrivalsRise, EachQueued}
 use Rattle.link_arena.specs.Arena.{Arena, value_at}
 use Rattle.thread_queue.specs.Item.{entry_of}
 use Rattle.thread_queue.specs.Laws.{SlotsStandOnce, WalkCountsSlots}
-use Rattle.thread_queue.specs.Queue.{HasSlot, Queue, times_in, walk_of}
+use Rattle.thread_queue.specs.Queue.{HasSlot, Queue, walk_of}
 use Rattle.thread_queue.specs.declared.item.Item.{Item}
 use Rattle.clutch_bucket.specs.Lane.{Follows, Lane, UnitFollows, UnitStands, groups, queue_at, unit_of}
 use Rattle.clutch_bucket.specs.Repricing.{changed_in, changed_upto, changes_pri}
@@ -21,7 +21,6 @@ use Rattle.clutch_bucket.proofs.LanePriced.{member_counts}
 use Rattle.clutch_bucket.proofs.Members.{first_member, later_member, member_cases, no_member}
 use Rattle.clutch_bucket.proofs.PricedAnew.{count_cons, times_among}
 use Rattle.clutch_bucket.proofs.Repriced.{entry_repriced}
-use Rattle.clutch_bucket.proofs.Units.{one_item}
 
 -- the entries at some slots
 abbrev pub with_entry : Option Item → List Queued → List Queued
@@ -70,24 +69,25 @@ SlotsDiffer arena slots =
 
 unlike_by : (arena : Arena Item) (k : ℕ) (ks : List ℕ) → times_among k (k ∷ ks) ≤ 1 → SlotsDiffer arena (k ∷ ks) → Unlike (entries_at arena ks) → (v : Option Item) → value_at arena k ≡ v → Unlike (with_entry v (entries_at arena ks))
 unlike_by arena k ks once differ rest None is = rest
-unlike_by arena k ks once differ rest (Some item) is =
-    ((λ y c alike.
-        let r = lies arena ks y c in
-        let same : k ≡ r.0 = differ k r.0 item r.1 (first_member k ks) (later_member k ks r.0 r.2.0) is r.2.1 (sym (ap (λ (q : Queued). q.arrival) r.2.2 ∙ alike)) in
-        let again = member_counts ks k (subst (λ (n : ℕ). Contains ks n) (sym same) r.2.0) in
-        let more = count_cons (λ other. other == k) k ks in
-        let here = member_counts (k ∷ []) k (first_member k []) in
-        let one = count_cons (λ other. other == k) k [] in
-        omega (arith, once, again, more, here, one)),
-    rest)
+unlike_by arena k ks once differ rest (Some item) is = (
+  (λ y c alike.
+      let r = lies arena ks y c in
+      let same : k ≡ r.0 = differ k r.0 item r.1 (first_member k ks) (later_member k ks r.0 r.2.0) is r.2.1 (sym (ap (λ (q : Queued). q.arrival) r.2.2 ∙ alike)) in
+      let again = member_counts ks k (subst (λ (n : ℕ). Contains ks n) (sym same) r.2.0) in
+      let more = count_cons (λ other. other == k) k ks in
+      let here = member_counts (k ∷ []) k (first_member k []) in
+      let one = count_cons (λ other. other == k) k [] in
+      omega (arith, once, again, more, here, one)),
+  rest,
+)
 
 unlike_at : (arena : Arena Item) (slots : List ℕ) → ((slot : ℕ) → times_among slot slots ≤ 1) → SlotsDiffer arena slots → Unlike (entries_at arena slots)
 unlike_at arena [] once differ = tt
 unlike_at arena (k ∷ ks) once differ =
     unlike_by arena k ks (once k) differ
     (unlike_at arena ks
-        (λ slot. let all = once slot in let more = count_cons (λ other. other == slot) k ks in omega (arith, all, more))
-        (λ i j x y ci cj vx vy same. differ i j x y (later_member k ks i ci) (later_member k ks j cj) vx vy same))
+    (λ slot. let all = once slot in let more = count_cons (λ other. other == slot) k ks in omega (arith, all, more))
+    (λ i j x y ci cj vx vy same. differ i j x y (later_member k ks i ci) (later_member k ks j cj) vx vy same))
     (value_at arena k) refl
 
 -- as many of the slots change their priority as of the entries that lie there
@@ -126,18 +126,18 @@ unit_changed walk single arena queue now used s k bucket stands follows rise =
     let slots = walk_of arena queue in
     let held : (slot : ℕ) → Contains slots slot → HasSlot arena queue slot = (λ slot c. let some = member_counts slots slot c in let same = walk arena queue slot in omega (arith, some, same)) in
     let by_entries : changed_in arena queue now ≡ count_by q (entries_at arena slots) =
-        counted_at arena queue.count now q slots (λ slot item c is.
-            ap (λ (e : Queued). not (e.pri == item.pri)) (entry_repriced s k queue.count now item (stands.each slot item (held slot c) is) bucket follows.count)) in
+    counted_at arena queue.count now q slots (λ slot item c is.
+    ap (λ (e : Queued). not (e.pri == item.pri)) (entry_repriced s k queue.count now item (stands.each slot item (held slot c) is) bucket follows.count)) in
     let unlike = unlike_at arena slots
-        (λ slot. let same = walk arena queue slot in let most = single arena queue stands.stands slot in omega (arith, same, most))
-        (λ i j x y ci cj vx vy same. follows.apart i j x y (held i ci) (held j cj) vx vy same) in
+    (λ slot. let same = walk arena queue slot in let most = single arena queue stands.stands slot in omega (arith, same, most))
+    (λ i j x y ci cj vx vy same. follows.apart i j x y (held i ci) (held j cj) vx vy same) in
     let most = no_more q (entries_at arena slots) (clutch_entries s k) unlike (λ e c.
-        let r = lies arena slots e c in
-        subst (λ (f : Queued). Contains (clutch_entries s k) f) r.2.2 (follows.entries.there r.0 r.1 (held r.0 r.2.0) r.2.1)) in
+    let r = lies arena slots e c in
+    subst (λ (f : Queued). Contains (clutch_entries s k) f) r.2.2 (follows.entries.there r.0 r.1 (held r.0 r.2.0) r.2.1)) in
     let least = no_more q (clutch_entries s k) (entries_at arena slots) (unlike_rising (in_clutch k) s.entries rise) (λ e c.
-        let from = follows.entries.back e c in
-        let there = counts_member slots from.0 (let has = from.2.0 in let same = walk arena queue from.0 in omega (arith, has, same)) in
-        subst (λ (f : Queued). Contains (entries_at arena slots) f) from.2.2 (entry_at_slot arena slots from.0 from.1 there from.2.1)) in
+    let from = follows.entries.back e c in
+    let there = counts_member slots from.0 (let has = from.2.0 in let same = walk arena queue from.0 in omega (arith, has, same)) in
+    subst (λ (f : Queued). Contains (entries_at arena slots) f) from.2.2 (entry_at_slot arena slots from.0 from.1 there from.2.1)) in
     omega (arith, by_entries, most, least)
 
 -- how many entries of the clutch buckets of the groups below a number pass a test
@@ -192,10 +192,10 @@ sum_skips q b e es zero out = refl
 sum_skips q b e es (suc g) out =
     let rest = sum_skips q b e es g out in
     let not_there : in_clutch (record { group = g; bucket = b }) e ≡ false =
-        elim (cases_Bool (in_clutch (record { group = g; bucket = b }) e)) [
-          | inl h ↦ absurd (false≢true (sym out ∙ lane_of_clutch g b e h))
-          | inr h ↦ h
-        ] in
+    elim (cases_Bool (in_clutch (record { group = g; bucket = b }) e)) [
+      | inl h ↦ absurd (false≢true (sym out ∙ lane_of_clutch g b e h))
+      | inr h ↦ h
+    ] in
     let same = skipped q (in_clutch (record { group = g; bucket = b })) e es not_there in
     omega (arith, rest, same)
 

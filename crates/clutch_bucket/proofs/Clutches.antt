@@ -1,5 +1,5 @@
 -- Clutch buckets by group: which entries stand in them, and where their numbers stand.
-use Rattle.std.proofs.Common.{◌≡◌, ◌≢◌, ◌⊎◌, ℕ, zero, suc, ◌+◌, ◌*◌, ◌<◌, ◌==◌, ◌&&◌, Bool, true, false, not, is_some, refl, sym, ap, ap₂, ◌∙◌, arith, eqb-true, eq-eqb}
+use Rattle.std.proofs.Common.{◌≡◌, ◌≢◌, ℕ, zero, suc, ◌*◌, ◌<◌, ◌==◌, ◌&&◌, Bool, true, false, not, is_some, refl, sym, ap, ap₂, ◌∙◌, arith, eqb-true, eq-eqb}
 use Rattle.std.proofs.lemmas.Bool.{and_from, and_parts, not-true, not_from_false}
 use Rattle.sched_base.specs.Bucket.{index}
 use Rattle.sched_base.specs.declared.Bucket.{Bucket}

@@ -1,10 +1,10 @@
 -- What an enter promises, from what its two parts did.
-use Rattle.std.proofs.Common.{◌≡◌, ◌≢◌, ℕ, ◌+◌, ◌<◌, ◌≤◌, Bool, true, false, Option, Some, cond, is_some, refl, sym, ap, ◌∙◌, subst, arith}
+use Rattle.std.proofs.Common.{◌≡◌, ℕ, ◌+◌, ◌<◌, ◌≤◌, Bool, true, false, Option, Some, is_some, sym, ap, ◌∙◌, subst, arith}
 use Rattle.std.proofs.lemmas.Bool.{cond_both}
 use Rattle.flat_policy.specs.Policy.Moves.{turn_on_entering}
-use Rattle.flat_policy.specs.Policy.Queue.{Clutch, Flat, clutch_of, in_clutch, spans_of}
+use Rattle.flat_policy.specs.Policy.Queue.{Flat, in_clutch}
 use Rattle.flat_policy.specs.Policy.Usage.{Spans, with_spans}
-use Rattle.link_arena.specs.Arena.{Arena, IsLive, value_at}
+use Rattle.link_arena.specs.Arena.{Arena, value_at}
 use Rattle.pairing_heap.specs.Laws.{FirstIsLeast, HeldAreLive}
 use Rattle.thread_queue.specs.Item.{entry_of, key_of_item, key_precedes}
 use Rattle.thread_queue.specs.Laws.{PushedStaysApart}
@@ -58,9 +58,13 @@ module _ (old new : Arena Item) (before later last : Lane) (g slot ran blocked t
 
   pub enter_has : HasLaneSlot new last slot
   enter_has =
-      subst (λ (l : Lane). HasLaneSlot new l slot) (sym last_is)
-      (g, (subst (λ (m : ℕ). g < m) (sym (groups_changed before g adds.queue used (before.len + 1))) e.within,
-      subst (λ (q : Queue). HasSlot new q slot) (sym (queue_here before g adds.queue used (before.len + 1) e.within)) (pushed_here old new (queue_at before g) adds.queue slot e.pushes)))
+      subst (λ (l : Lane). HasLaneSlot new l slot) (sym last_is) (
+        g,
+        (
+          subst (λ (m : ℕ). g < m) (sym (groups_changed before g adds.queue used (before.len + 1))) e.within,
+          subst (λ (q : Queue). HasSlot new q slot) (sym (queue_here before g adds.queue used (before.len + 1) e.within)) (pushed_here old new (queue_at before g) adds.queue slot e.pushes),
+        ),
+      )
 
   pub enter_len : last.len ≡ before.len + 1
   enter_len = ap (λ (l : Lane). l.len) last_is
@@ -94,11 +98,12 @@ module _ (old new : Arena Item) (before later last : Lane) (g slot ran blocked t
       entry_is ran blocked item s k own
       ∙ (ap (λ (u : Spans). turn_on_entering s k (grown k (entry_of item) (with_spans u ran blocked) s)) (f.units.each g e.within).spans
       ∙ entered_turn old new before g slot item adds.queue used e s f fresh) in
-      let follows = subst (λ (t : ℕ). Follows new (with_renewed new false t g mid) flat) (sym same) (entered_follows old new before g slot item adds.queue used e s f fresh) in
-      (subst (λ (y : Flat). Follows new last y) (sym is) (subst (λ (l : Lane). Follows new l flat) (sym last_is) follows),
-      rises ∙ (ap (λ (l : Lane). renewed_turn false turn (rank_at l g) (top_at new l g)) adds.is
-      ∙ (ap (λ (t : ℕ). renewed_turn false t (rank_at before g) (top_at new mid g)) same
-      ∙ (sym (only_turns false (rank_at before g) (top_at new mid g) k x).next ∙ ap (λ (y : Flat). y.next_turn) (sym is)))))
+      let follows = subst (λ (t : ℕ). Follows new (with_renewed new false t g mid) flat) (sym same) (entered_follows old new before g slot item adds.queue used e s f fresh) in (
+        subst (λ (y : Flat). Follows new last y) (sym is) (subst (λ (l : Lane). Follows new l flat) (sym last_is) follows),
+        rises ∙ (ap (λ (l : Lane). renewed_turn false turn (rank_at l g) (top_at new l g)) adds.is
+            ∙ (ap (λ (t : ℕ). renewed_turn false t (rank_at before g) (top_at new mid g)) same
+            ∙ (sym (only_turns false (rank_at before g) (top_at new mid g) k x).next ∙ ap (λ (y : Flat). y.next_turn) (sym is)))),
+      )
 
 -- the next turn rises by one at the most
 pub rises_by : (picked : Bool) (turn after : ℕ) (rank : Option UnitKey) (top : Option ℕ) → after ≡ renewed_turn picked turn rank top → (turn ≤ after) × (after ≤ turn + 1)

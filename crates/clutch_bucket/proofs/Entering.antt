@@ -1,10 +1,10 @@
 -- A lane that an entry entered.
-use Rattle.std.proofs.Common.{◌≡◌, ◌≢◌, ℕ, ◌+◌, ◌*◌, ◌<◌, Bool, true, false, cond, Contains, List, [], ◌∷◌, ◌++◌, Option, Some, None, filter, get_or, length, length-append, set, refl, sym, ap, ap₂, ◌∙◌, subst, arith}
-use Rattle.std.proofs.lemmas.Bool.{cond-true, cond-false, eqb-false, false_from_ne_true}
+use Rattle.std.proofs.Common.{◌≡◌, ◌≢◌, ℕ, ◌+◌, ◌<◌, Bool, true, false, Contains, List, [], ◌∷◌, ◌++◌, Option, Some, filter, length, length-append, set, refl, sym, ap, ◌∙◌, subst, arith}
+use Rattle.std.proofs.lemmas.Bool.{cond-true, cond-false, false_from_ne_true}
 use Rattle.std.proofs.lemmas.List.{append-nil, get_or-set_other, get_or-set_same, length-set}
 use Rattle.std.proofs.lemmas.List.Elements.{Contains-push, filter-append}
-use Rattle.flat_policy.specs.Policy.Moves.{clutch_has_entries, turn_on_entering}
-use Rattle.flat_policy.specs.Policy.Queue.{Clutch, Flat, Queued, clutch_entries, clutch_of, clutch_place, in_clutch, in_lane, lane, lane_entries, no_spans, spans_of, turn_of}
+use Rattle.flat_policy.specs.Policy.Moves.{turn_on_entering}
+use Rattle.flat_policy.specs.Policy.Queue.{Clutch, Flat, Queued, clutch_entries, clutch_of, clutch_place, in_clutch, in_lane, lane, lane_entries, no_spans, spans_of}
 use Rattle.flat_policy.specs.Policy.Usage.{Spans, with_spans}
 use Rattle.link_arena.specs.Arena.{Arena, IsLive, value_at}
 use Rattle.pairing_heap.specs.Laws.{FirstIsLeast, HeldAreLive}
@@ -12,11 +12,11 @@ use Rattle.thread_queue.specs.Item.{entry_of, key_of_item, key_precedes}
 use Rattle.thread_queue.specs.Laws.{PushedStaysApart, StaysIn}
 use Rattle.thread_queue.specs.Queue.{LacksSlot, Pushes, Queue}
 use Rattle.thread_queue.specs.declared.item.Item.{Item}
-use Rattle.clutch_bucket.specs.Lane.{Follows, IsNew, LacksLaneSlot, Lane, LaneStands, UnitFollows, UnitItem, UnitStands, UnitsFollow, UnitsStand, groups, queue_at, rank_at, rank_pri, rank_turn, spans_at, top_at, unit_of, with_unit_entry}
-use Rattle.clutch_bucket.specs.Renewing.{top_of, turned, with_renewed}
+use Rattle.clutch_bucket.specs.Lane.{Follows, IsNew, LacksLaneSlot, Lane, LaneStands, UnitItem, UnitsFollow, UnitsStand, groups, queue_at, rank_at, rank_pri, spans_at, top_at, unit_of, with_unit_entry}
+use Rattle.clutch_bucket.specs.Renewing.{turned, with_renewed}
 use Rattle.clutch_bucket.proofs.Apart.{ApartStay, other_top, others_stay}
-use Rattle.clutch_bucket.proofs.Clutches.{lane_of_clutch, own_clutch, parts_of_clutch, place_within, places_differ}
-use Rattle.clutch_bucket.proofs.Lanes.{changed_at, follow_changed, follows_renewed, groups_changed, lane_renewed, queue_here, spans_here, units_changed}
+use Rattle.clutch_bucket.proofs.Clutches.{lane_of_clutch, parts_of_clutch, place_within, places_differ}
+use Rattle.clutch_bucket.proofs.Lanes.{changed_at, follow_changed, follows_renewed, groups_changed, lane_renewed, units_changed}
 use Rattle.clutch_bucket.proofs.Members.{filter_member, some_passes}
 use Rattle.clutch_bucket.proofs.Tops.{unit_top}
 use Rattle.clutch_bucket.proofs.Turns.{entering}

@@ -1,5 +1,5 @@
 -- A lane whose units are priced anew, one after the other.
-use Rattle.std.proofs.Common.{◌≡◌, ◌≢◌, ◌⊎◌, ℕ, ◌+◌, ◌*◌, ◌≤◌, ◌<◌, ◌==◌, Bool, cond, Contains, List, [], ◌∷◌, ◌++◌, Option, Some, eq-eqb, length, map, set, get_or, refl, sym, ap, ◌∙◌, subst, inl, inr, arith}
+use Rattle.std.proofs.Common.{◌≡◌, ◌≢◌, ℕ, ◌+◌, ◌≤◌, ◌<◌, ◌==◌, Bool, cond, Contains, List, [], ◌∷◌, ◌++◌, Option, Some, eq-eqb, map, set, refl, sym, ap, ◌∙◌, subst, inl, inr, arith}
 use Rattle.std.specs.Prelude.{count_by}
 use Rattle.std.proofs.lemmas.Bool.{cases_eq}
 use Rattle.std.proofs.lemmas.List.{map-append}
@@ -10,10 +10,10 @@ use Rattle.pairing_heap.specs.Tree.{Tree, leaf, node, pairs, slots}
 use Rattle.thread_queue.specs.Item.{key_of_item, key_precedes}
 use Rattle.thread_queue.specs.Laws.{StaysIn, WalkCountsSlots}
 use Rattle.pairing_heap.specs.Heap.{times_of}
-use Rattle.thread_queue.specs.Queue.{HasSlot, LacksSlot, Queue, members, times_in, walk_of}
+use Rattle.thread_queue.specs.Queue.{HasSlot, LacksSlot, Queue, times_in, walk_of}
 use Rattle.thread_queue.specs.declared.item.Item.{Item}
 use Rattle.thread_queue.specs.declared.item.ItemKey.{ItemKey}
-use Rattle.clutch_bucket.specs.Lane.{Lane, OtherQueuesStay, StaysFrom, UnitsStand, groups, no_queue, queue_at, spans_at}
+use Rattle.clutch_bucket.specs.Lane.{Lane, StaysFrom, UnitsStand, groups, no_queue, queue_at, spans_at}
 use Rattle.clutch_bucket.specs.Repricing.{IsLeft, IsPriced, PricedUpTo, RepricesUnit, changed_in, changes_pri, repriced_item}
 use Rattle.clutch_bucket.proofs.Lanes.{groups_changed, queue_here, queue_other}
 use Rattle.clutch_bucket.proofs.Members.{first_member, later_member, member_cases, no_member}

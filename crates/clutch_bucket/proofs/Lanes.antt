@@ -1,6 +1,5 @@
 -- A lane whose unit of one group changed, and a lane whose key of one group was renewed.
-use Rattle.std.proofs.Common.{◌≡◌, ◌≢◌, ℕ, ◌+◌, ◌*◌, ◌<◌, Bool, false, Option, Some, None, List, filter, length, get_or, set, refl, sym, ap, ◌∙◌, subst, inl, inr, arith}
-use Rattle.std.specs.List.{sum_by}
+use Rattle.std.proofs.Common.{◌≡◌, ◌≢◌, ℕ, ◌+◌, ◌*◌, ◌<◌, Bool, false, None, List, filter, length, get_or, set, sym, ap, ◌∙◌, subst, inl, inr, arith}
 use Rattle.std.proofs.lemmas.Bool.{cases_eq}
 use Rattle.std.proofs.lemmas.List.{get_or-set_other, get_or-set_same, length-set}
 use Rattle.std.proofs.lemmas.List.Sums.{sum_by-set}
@@ -12,7 +11,6 @@ use Rattle.thread_queue.specs.Queue.{Queue}
 use Rattle.thread_queue.specs.declared.item.Item.{Item}
 use Rattle.clutch_bucket.specs.Lane.{Follows, Lane, LaneStands, UnitFollows, UnitStands, UnitsFollow, UnitsStand, groups, no_queue, queue_at, rank_at, rank_pri, rank_turn, spans_at, top_at, unit_of}
 use Rattle.clutch_bucket.specs.Renewing.{renewed_rank, turned, with_renewed}
-use Rattle.clutch_bucket.specs.declared.ranks.UnitKey.{UnitKey}
 use Rattle.clutch_bucket.proofs.Clutches.{place_within, places_differ}
 use Rattle.clutch_bucket.proofs.Turns.{only_turns, other_turn, renewed_pri, renewed_turn_is}
 

@@ -1,22 +1,19 @@
 -- A lane that an entry left.
-use Rattle.std.proofs.Common.{◌≡◌, ◌≢◌, ℕ, ◌+◌, ◌<◌, Bool, true, false, cond, not, Contains, List, Option, Some, None, filter, get_or, length, refl, sym, ap, ap₂, ◌∙◌, subst, arith}
-use Rattle.std.proofs.lemmas.Bool.{cond-true, cond-false}
-use Rattle.std.proofs.lemmas.List.{set-get_or}
-use Rattle.flat_policy.specs.Policy.Moves.{clutch_has_entries, turn_on_leaving, turn_on_selection, without}
-use Rattle.flat_policy.specs.Policy.Queue.{Clutch, Flat, Queued, clutch_entries, clutch_of, in_clutch, in_lane, lane, lane_entries, spans_of, turn_of}
-use Rattle.flat_policy.specs.Policy.Usage.{Spans}
-use Rattle.flat_policy.specs.Policy.WellFormed.{ArrivalsRise, WellFormed}
+use Rattle.std.proofs.Common.{◌≡◌, ◌≢◌, ℕ, ◌+◌, ◌<◌, Bool, true, false, cond, Contains, Option, Some, refl, sym, ap, ◌∙◌, subst, arith}
+use Rattle.flat_policy.specs.Policy.Moves.{turn_on_leaving, turn_on_selection, without}
+use Rattle.flat_policy.specs.Policy.Queue.{Clutch, Flat, Queued, clutch_entries, clutch_of, in_clutch, in_lane, lane}
+use Rattle.flat_policy.specs.Policy.WellFormed.{ArrivalsRise}
 use Rattle.link_arena.specs.Arena.{Arena, value_at}
 use Rattle.pairing_heap.specs.Laws.{FirstIsLeast, HeldAreLive}
 use Rattle.thread_queue.specs.Item.{entry_of, key_of_item, key_precedes}
 use Rattle.thread_queue.specs.Laws.{RemovedIsLacked, RemovedStaysApart, StaysIn}
 use Rattle.thread_queue.specs.Queue.{HasSlot, LacksSlot, Queue, Removes}
 use Rattle.thread_queue.specs.declared.item.Item.{Item}
-use Rattle.clutch_bucket.specs.Lane.{Follows, LacksLaneSlot, Lane, LaneStands, UnitFollows, UnitsFollow, UnitsStand, groups, queue_at, rank_at, rank_pri, rank_turn, spans_at, top_at, unit_of, without_unit_entry}
+use Rattle.clutch_bucket.specs.Lane.{Follows, LacksLaneSlot, Lane, LaneStands, UnitsFollow, UnitsStand, groups, queue_at, rank_at, rank_pri, spans_at, top_at, unit_of, without_unit_entry}
 use Rattle.clutch_bucket.specs.Renewing.{top_of, turned, with_renewed}
 use Rattle.clutch_bucket.proofs.Apart.{ApartStay, apart_within, lacks_changed, other_top, others_stay}
 use Rattle.clutch_bucket.proofs.Arrivals.{one_less, others_stay as other_entries_stay}
-use Rattle.clutch_bucket.proofs.Clutches.{lane_of_clutch, own_clutch, parts_of_clutch}
+use Rattle.clutch_bucket.proofs.Clutches.{lane_of_clutch}
 use Rattle.clutch_bucket.proofs.Entering.{in_one_clutch}
 use Rattle.clutch_bucket.proofs.Lanes.{changed_at, follow_changed, follows_renewed, groups_changed, lane_renewed, units_changed}
 use Rattle.clutch_bucket.proofs.Members.{filter_member, some_passes}

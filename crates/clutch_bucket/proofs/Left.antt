@@ -1,14 +1,13 @@
 -- What a removal promises, from what its two parts did.
-use Rattle.std.proofs.Common.{◌≡◌, ℕ, ◌+◌, ◌<◌, Bool, List, Option, Some, get_or, set, refl, sym, ap, ap₂, ◌∙◌, subst, arith}
+use Rattle.std.proofs.Common.{◌≡◌, ℕ, ◌+◌, Bool, List, Some, set, sym, ap, ◌∙◌, subst, arith}
 use Rattle.std.proofs.lemmas.List.{set-get_or}
 use Rattle.flat_policy.specs.Policy.Queue.{Flat, no_spans}
 use Rattle.flat_policy.specs.Policy.Usage.{Spans}
 use Rattle.flat_policy.specs.Policy.WellFormed.{ArrivalsRise}
 use Rattle.link_arena.specs.Arena.{Arena, value_at}
 use Rattle.thread_queue.specs.Item.{entry_of}
-use Rattle.thread_queue.specs.Queue.{Queue}
 use Rattle.thread_queue.specs.declared.item.Item.{Item}
-use Rattle.clutch_bucket.specs.Lane.{Follows, HasLaneSlot, LacksLaneSlot, Lane, LaneStands, OnlyQueuesChange, OtherQueuesStay, SameGroups, StaysFrom, UnitsStand, groups, queue_at, rank_at, spans_at, top_at, unit_of, without_unit_entry}
+use Rattle.clutch_bucket.specs.Lane.{Follows, HasLaneSlot, LacksLaneSlot, Lane, LaneStands, OnlyQueuesChange, OtherQueuesStay, SameGroups, StaysFrom, UnitsStand, groups, rank_at, spans_at, top_at, unit_of, without_unit_entry}
 use Rattle.clutch_bucket.specs.Renewing.{TakesSlot, renewed_turn, turned, with_renewed}
 use Rattle.clutch_bucket.proofs.Apart.{stays_from}
 use Rattle.clutch_bucket.proofs.Clutches.{own_clutch, parts_of_clutch}
@@ -72,8 +71,9 @@ module _ (old new : Arena Item) (before later last : Lane) (g slot : ℕ) (picke
       let flat = turned picked (rank_at before g) (top_at new mid g) k x in
       let own = own_clutch k (entry_of item) ((e.stands.units.each g e.within).each slot item e.has stored).within in
       let is : without_unit_entry picked item s ≡ flat = removal_is picked item s k own ∙ left_turn old new before g slot takes.queue later.len takes.len item stored e s f rise picked in
-      let follows = subst (λ (t : ℕ). Follows new (with_renewed new picked t g mid) flat) (sym same) (left_follows old new before g slot takes.queue later.len takes.len item stored e s f rise picked) in
-      (subst (λ (y : Flat). Follows new last y) (sym is) (subst (λ (l : Lane). Follows new l flat) (sym last_is) follows),
-      rises ∙ (ap (λ (l : Lane). renewed_turn picked turn (rank_at l g) (top_at new l g)) (left_is old new before later g slot takes)
-      ∙ (ap (λ (t : ℕ). renewed_turn picked t (rank_at before g) (top_at new mid g)) same
-      ∙ (sym (only_turns picked (rank_at before g) (top_at new mid g) k x).next ∙ ap (λ (y : Flat). y.next_turn) (sym is)))))
+      let follows = subst (λ (t : ℕ). Follows new (with_renewed new picked t g mid) flat) (sym same) (left_follows old new before g slot takes.queue later.len takes.len item stored e s f rise picked) in (
+        subst (λ (y : Flat). Follows new last y) (sym is) (subst (λ (l : Lane). Follows new l flat) (sym last_is) follows),
+        rises ∙ (ap (λ (l : Lane). renewed_turn picked turn (rank_at l g) (top_at new l g)) (left_is old new before later g slot takes)
+            ∙ (ap (λ (t : ℕ). renewed_turn picked t (rank_at before g) (top_at new mid g)) same
+            ∙ (sym (only_turns picked (rank_at before g) (top_at new mid g) k x).next ∙ ap (λ (y : Flat). y.next_turn) (sym is)))),
+      )

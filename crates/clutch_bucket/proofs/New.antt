@@ -1,20 +1,18 @@
 -- A lane with no entries stands, and follows the queue with none.
-use Rattle.std.proofs.Common.{◌≡◌, ℕ, zero, suc, ◌+◌, ◌*◌, ◌<◌, false, List, [], Option, Some, None, Contains, IfOk, get_or, length, replicate, refl, sym, ap, ◌∙◌, subst, inl, inr, arith}
-use Rattle.std.specs.List.{sum_by}
+use Rattle.std.proofs.Common.{◌≡◌, ℕ, zero, suc, ◌*◌, List, [], Option, None, get_or, length, replicate, refl, sym, ap, ◌∙◌, subst, arith}
 use Rattle.std.proofs.lemmas.List.{length-replicate}
 use Rattle.std.proofs.lemmas.List.Folds.{sum_by-replicate}
 use Rattle.sched_base.specs.declared.Bucket.{Bucket}
 use Rattle.flat_policy.specs.Policy.Queue.{Clutch, clutch_place, empty_flat, no_spans}
 use Rattle.flat_policy.specs.Policy.Usage.{Spans}
-use Rattle.link_arena.specs.Arena.{Arena, value_at}
+use Rattle.link_arena.specs.Arena.{Arena}
 use Rattle.pairing_heap.specs.Heap.{times_of}
 use Rattle.pairing_heap.specs.Laws.{FirstIsLeast, StandsWhenEmpty}
-use Rattle.thread_queue.specs.Item.{entry_of, key_of_item, key_precedes}
-use Rattle.thread_queue.specs.Laws.{AreEntries}
-use Rattle.thread_queue.specs.Queue.{HasSlot, LacksSlot, Queue, StandsIn, members}
+use Rattle.thread_queue.specs.Item.{key_of_item, key_precedes}
+use Rattle.thread_queue.specs.Queue.{HasSlot, LacksSlot, Queue, members}
 use Rattle.thread_queue.specs.declared.item.Item.{Item}
 use Rattle.thread_queue.specs.declared.item.ItemKey.{ItemKey}
-use Rattle.clutch_bucket.specs.Lane.{Follows, LacksLaneSlot, Lane, LaneStands, UnitFollows, UnitStands, groups, no_queue, queue_at, rank_at, rank_pri, rank_turn, slot_top, spans_at, top_at, unit_of}
+use Rattle.clutch_bucket.specs.Lane.{Follows, LacksLaneSlot, Lane, LaneStands, UnitFollows, UnitStands, no_queue, rank_pri, rank_turn, slot_top, spans_at, unit_of}
 use Rattle.clutch_bucket.specs.declared.ranks.UnitKey.{UnitKey}
 use Rattle.clutch_bucket.proofs.Members.{no_member}
 

@@ -1,18 +1,17 @@
 -- A queue whose slots are priced anew, one after the other of a walk.
-use Rattle.std.proofs.Common.{◌≡◌, ◌≢◌, ℕ, ◌+◌, ◌≤◌, ◌<◌, ◌==◌, Bool, true, false, cond, List, [], ◌∷◌, ◌++◌, Option, Some, None, length, refl, sym, ap, ◌∙◌, subst, inl, inr, arith, eq-eqb, length-append}
+use Rattle.std.proofs.Common.{◌≡◌, ◌≢◌, ℕ, ◌+◌, ◌≤◌, ◌<◌, ◌==◌, Bool, true, false, cond, List, ◌∷◌, Option, Some, length, refl, sym, ap, ◌∙◌, subst, inl, inr, arith, eq-eqb, length-append}
 use Rattle.std.specs.Prelude.{count_by}
 use Rattle.std.proofs.lemmas.Bool.{cases_eq, ne_eqb}
 use Rattle.std.proofs.lemmas.List.Sums.{count_by-le-length, sum_by-cons}
 use Rattle.sched_base.specs.Limits.{most_base}
 use Rattle.link_arena.specs.Arena.{Arena, links_at, value_at}
-use Rattle.pairing_heap.specs.Heap.{times_of}
 use Rattle.pairing_heap.specs.Laws.{HeldAreLive}
 use Rattle.pairing_heap.specs.Tree.{Tree, leaf, node, pairs, slots}
 use Rattle.thread_queue.specs.Item.{key_of_item, key_precedes, settled_item}
 use Rattle.thread_queue.specs.Laws.{QueuesApart, SettledStaysApart, SlotsStandOnce, StaysApart, WalkCountsSlots}
 use Rattle.thread_queue.specs.Queue.{HasSlot, LacksSlot, Queue, StandsIn, members, times_in, walk_of}
 use Rattle.thread_queue.specs.declared.item.Item.{Item}
-use Rattle.clutch_bucket.specs.Repricing.{Reprices, RepricesSlot, changed_in, changes_pri, pri_at, repriced_item, usage_at}
+use Rattle.clutch_bucket.specs.Repricing.{RepricesSlot, changed_in, changes_pri, pri_at, repriced_item, usage_at}
 use Rattle.clutch_bucket.proofs.Units.{has_or_lacks, not_both, one_item}
 
 -- how often a slot stands in a list

@@ -1,6 +1,6 @@
 -- A unit that lost a slot has the entries that remain.
-use Rattle.std.proofs.Common.{◌≡◌, ◌≢◌, ℕ, ◌+◌, ◌<◌, ◌==◌, Bool, true, false, not, Contains, List, Some, filter, length, refl, sym, ap, ◌∙◌, subst, arith, eqb-true}
-use Rattle.std.proofs.lemmas.Bool.{eqb-false, false≢true, ne_eqb, not-true, not_from_false}
+use Rattle.std.proofs.Common.{◌≡◌, ◌≢◌, ℕ, ◌==◌, not, Contains, List, Some, filter, length, sym, ap, ◌∙◌, subst, arith}
+use Rattle.std.proofs.lemmas.Bool.{eqb-false, ne_eqb, not-true, not_from_false}
 use Rattle.flat_policy.specs.Policy.Moves.{without}
 use Rattle.flat_policy.specs.Policy.Queue.{Clutch, Flat, Queued, clutch_entries, in_clutch, spans_of}
 use Rattle.flat_policy.specs.Policy.Usage.{Spans}
@@ -38,9 +38,9 @@ follows_removed old new queue later spans slot item s next k removes lacks held 
             let inner = filter_member stays s.entries entry outer.0 in
             let from = follows.entries.back entry (member_of_filter (in_clutch k) s.entries entry inner.0 outer.1) in
             let other : slot ≢ from.0 = λ e. (
-                let same = one_item old from.0 item from.1 (ap (value_at old) (sym e) ∙ stored) from.2.1 in
-                eqb-false entry.arrival item.arrival (not-true (entry.arrival == item.arrival) inner.1)
-                (ap (λ (q : Queued). q.arrival) (sym from.2.2) ∙ ap (λ (i : Item). i.arrival) (sym same))) in
+            let same = one_item old from.0 item from.1 (ap (value_at old) (sym e) ∙ stored) from.2.1 in
+            eqb-false entry.arrival item.arrival (not-true (entry.arrival == item.arrival) inner.1)
+            (ap (λ (q : Queued). q.arrival) (sym from.2.2) ∙ ap (λ (i : Item). i.arrival) (sym same))) in
             (from.0, from.1, (remains old new queue later slot from.0 removes other from.2.0, removes.takes.kept.values from.0 ∙ from.2.1, from.2.2)));
       };
       count = (

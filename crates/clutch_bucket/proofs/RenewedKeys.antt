@@ -1,5 +1,5 @@
 -- The keys of a lane that are renewed one after the other, and the turns of the clutch buckets that they follow.
-use Rattle.std.proofs.Common.{◌≡◌, ◌≢◌, ℕ, zero, suc, ◌+◌, ◌*◌, ◌<◌, ◌≤◌, Bool, false, Option, Some, None, List, [], ◌∷◌, ◌++◌, filter, fold, get_or, length, map, set, refl, sym, ap, ap₂, ◌∙◌, subst, inl, inr, arith}
+use Rattle.std.proofs.Common.{◌≡◌, ℕ, zero, suc, ◌+◌, ◌<◌, ◌≤◌, false, Option, None, List, [], ◌∷◌, ◌++◌, fold, get_or, length, map, set, refl, sym, ap, ap₂, ◌∙◌, subst, inl, inr, arith}
 use Rattle.std.proofs.lemmas.Bool.{cases_eq}
 use Rattle.std.proofs.lemmas.List.{get_or-set_other, get_or-set_same, length-set, map-append}
 use Rattle.std.proofs.lemmas.List.Sums.{fold-append}
@@ -15,7 +15,7 @@ use Rattle.link_arena.specs.Arena.{Arena}
 use Rattle.pairing_heap.specs.Laws.{FirstIsLeast, HeldAreLive}
 use Rattle.thread_queue.specs.Item.{key_of_item, key_precedes}
 use Rattle.thread_queue.specs.declared.item.Item.{Item}
-use Rattle.clutch_bucket.specs.Lane.{Follows, Lane, LaneStands, UnitsFollow, UnitsStand, groups, queue_at, rank_at, rank_pri, rank_turn, spans_at, top_at, unit_of}
+use Rattle.clutch_bucket.specs.Lane.{Follows, Lane, LaneStands, UnitsStand, groups, queue_at, rank_at, rank_pri, rank_turn, spans_at, top_at, unit_of}
 use Rattle.clutch_bucket.specs.Renewing.{KeysAreOf, renewed_rank, renewed_turn, top_of, turned}
 use Rattle.clutch_bucket.specs.declared.ranks.UnitKey.{UnitKey}
 use Rattle.clutch_bucket.proofs.Clutches.{place_within, places_differ}
@@ -29,7 +29,6 @@ numbers_more zero first = let e : first ≡ first + 0 = omega arith in ap (λ (m
 numbers_more (suc n) first =
     let e : suc first + n ≡ first + suc n = omega arith in
     ap (λ (ms : List ℕ). first ∷ ms) (numbers_more n (suc first) ∙ ap (λ (m : ℕ). numbers_from (suc first) n ++ m ∷ []) e)
-
 
 abbrev group_clutch : Bucket → ℕ → Clutch
 group_clutch b g = record { group = g; bucket = b }
@@ -74,8 +73,6 @@ top_alike : (x p : Flat) (k : Clutch) → x.entries ≡ p.entries → x.spans �
 top_alike x p k entries spans = ap₂ (λ (es : List Queued) (us : List Spans). top_of (record p { entries = es; spans = us }) k) entries spans
 
 module _ (held : HeldAreLive 0 key_of_item key_precedes) (least : FirstIsLeast 0 key_of_item key_precedes) (arena : Arena Item) (at : Lane) (stands : UnitsStand arena at) (ranks : List (Option UnitKey)) (i start turn : ℕ) (within : i < groups at) (r : RenewedTo arena at ranks i start turn) where
-
-
   turned_more : (s p : Flat) → KeysAreOf arena at s p → start ≡ p.next_turn
       → TurnedTo at (set ranks i (renewed_rank false turn (get_or ranks i None) (top_at arena at i))) (with_turns_of (suc i) s p at.bucket) p (renewed_turn false turn (get_or ranks i None) (top_at arena at i))
   turned_more s p keys same =
@@ -143,12 +140,14 @@ pub all_follow : (arena : Arena Item) (at : Lane) (ranks : List (Option UnitKey)
     → Follows arena (record at { ranks = ranks }) (with_turns_of (groups at) s p at.bucket) × (turn ≡ (with_turns_of (groups at) s p at.bucket).next_turn)
 all_follow arena at ranks start turn stands r s p keys same =
     let last = r.follows s p keys same in
-    let units = follow_alike arena at p (with_turns_of (groups at) s p at.bucket) last.entries last.spans last.places keys.follow in
-    (record {
-      stands = all_stand arena at ranks (groups at) start turn stands (omega arith) r;
-      units = record { each = units.each; len = units.len; span_places = units.span_places; turn_places = units.turn_places };
-      turns = last.turns;
-    }, last.next)
+    let units = follow_alike arena at p (with_turns_of (groups at) s p at.bucket) last.entries last.spans last.places keys.follow in (
+      record {
+        stands = all_stand arena at ranks (groups at) start turn stands (omega arith) r;
+        units = record { each = units.each; len = units.len; span_places = units.span_places; turn_places = units.turn_places };
+        turns = last.turns;
+      },
+      last.next,
+    )
 
 pub units_with : (arena : Arena Item) (at : Lane) (ranks : List (Option UnitKey)) → UnitsStand arena at → length ranks ≡ groups at → UnitsStand arena (record at { ranks = ranks })
 units_with arena at ranks stands places = record { spans = stands.spans; ranks = places; each = stands.each; counted = stands.counted }

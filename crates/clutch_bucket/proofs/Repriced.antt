@@ -1,23 +1,22 @@
 -- A lane whose units are priced anew follows the cluster's queue priced anew.
-use Rattle.std.proofs.Common.{◌≡◌, ◌≢◌, ℕ, ◌+◌, ◌*◌, ◌≤◌, ◌<◌, ◌==◌, Bool, true, false, cond, Contains, List, [], ◌∷◌, Option, Some, None, is_some, length, map, get_or, refl, sym, ap, ap₂, ◌∙◌, subst, inl, inr, arith}
+use Rattle.std.proofs.Common.{◌≡◌, ◌≢◌, ℕ, ◌+◌, ◌*◌, ◌<◌, true, false, Contains, List, [], ◌∷◌, Option, Some, None, is_some, length, map, get_or, refl, sym, ap, ap₂, ◌∙◌, subst, inl, inr}
 use Rattle.std.specs.List.{list_any}
 use Rattle.std.proofs.lemmas.Bool.{cond-false, false≢true}
 use Rattle.std.proofs.lemmas.List.{length-map}
 use Rattle.sched_base.specs.declared.Bucket.{Bucket}
 use Rattle.sched_base.specs.declared.Bucket.TheVariants.{Bg, Df, Fg, Ini, Ui, Ut}
 use Rattle.sched_base.specs.declared.Facts.{Facts}
-use Rattle.flat_policy.specs.Policy.Moves.{clutch_has_entries}
-use Rattle.flat_policy.specs.Policy.Precedence.{clutch_priority, greatest_pri}
-use Rattle.flat_policy.specs.Policy.Queue.{Clutch, Flat, Queued, clutch_entries, clutch_of, clutch_place, in_clutch, lane, lane_entries, no_spans, spans_of, turn_of, unit_entries}
+use Rattle.flat_policy.specs.Policy.Precedence.{greatest_pri}
+use Rattle.flat_policy.specs.Policy.Queue.{Clutch, Flat, Queued, clutch_entries, clutch_of, clutch_place, no_spans, spans_of, unit_entries}
 use Rattle.flat_policy.specs.Policy.Refresh.{is_ui, repriced}
-use Rattle.flat_policy.specs.Policy.Usage.{Spans, decay, priority, score}
+use Rattle.flat_policy.specs.Policy.Usage.{Spans, score}
 use Rattle.link_arena.specs.Arena.{Arena, value_at}
 use Rattle.pairing_heap.specs.Laws.{FirstIsLeast, HeldAreLive}
 use Rattle.thread_queue.specs.Item.{entry_of, key_of_item, key_precedes}
 use Rattle.thread_queue.specs.Queue.{HasSlot, Queue}
 use Rattle.thread_queue.specs.declared.item.Item.{Item}
-use Rattle.clutch_bucket.specs.Lane.{Follows, HasLaneSlot, HoldsRepriced, Lane, LanePriced, UnitFollows, UnitItem, UnitStands, UnitsFollow, UnitsStand, groups, queue_at, rank_at, rank_pri, rank_turn, spans_at, unit_of}
-use Rattle.clutch_bucket.specs.Renewing.{KeysAreOf, top_of}
+use Rattle.clutch_bucket.specs.Lane.{Follows, HasLaneSlot, HoldsRepriced, Lane, LanePriced, UnitFollows, UnitItem, UnitStands, UnitsFollow, groups, queue_at, spans_at, unit_of}
+use Rattle.clutch_bucket.specs.Renewing.{KeysAreOf}
 use Rattle.clutch_bucket.specs.Repricing.{IsPriced, PricedUpTo, pri_at, repriced_item, usage_at}
 use Rattle.clutch_bucket.proofs.Clutches.{own_clutch, parts_of_clutch}
 use Rattle.clutch_bucket.proofs.Members.{first_member, later_member, member_cases, no_member}
@@ -86,9 +85,11 @@ module _ (live : HeldAreLive 0 key_of_item key_precedes) (old new : Arena Item) 
       back = λ entry c. (
           let m = member_of_map (repriced s now) (clutch_entries s k) entry (subst (λ (es : List Queued). Contains es entry) entries c) in
           let from = follows.entries.back m.0 m.1.0 in
-          let has : HasSlot new later from.0 = subst (λ (n : ℕ). 0 < n) (sym (priced.slots from.0)) from.2.0 in
-          (from.0, repriced_item queue.count now from.1,
-          (has, priced.values from.0 from.1 from.2.0 from.2.1, entry_now from.0 from.1 from.2.0 from.2.1 ∙ (ap (repriced s now) from.2.2 ∙ m.1.1))));
+          let has : HasSlot new later from.0 = subst (λ (n : ℕ). 0 < n) (sym (priced.slots from.0)) from.2.0 in (
+            from.0,
+            repriced_item queue.count now from.1,
+            (has, priced.values from.0 from.1 from.2.0 from.2.1, entry_now from.0 from.1 from.2.0 from.2.1 ∙ (ap (repriced s now) from.2.2 ∙ m.1.1)),
+          ));
     };
     count = priced.count ∙ (follows.count ∙ (sym (length-map (clutch_entries s k) (repriced s now)) ∙ ap (λ (es : List Queued). length es) (sym entries)));
     apart = λ slot other item rival has rest here there alike. (
@@ -126,7 +127,7 @@ module _ (live : HeldAreLive 0 key_of_item key_precedes) (first : FirstIsLeast 0
         (priced.entries g within) (spans_same g));
     len = f.units.len ∙ sym priced.len;
     span_places = ap (λ (us : List Spans). length us) priced.spans ∙ (f.units.span_places ∙ ap (λ (m : ℕ). m * 6) (sym r.alike));
-    turn_places = ap (λ (ts : List (Option ℕ)). length ts) priced.turns ∙ (f.units.turn_places ∙ ap (λ (m : ℕ). m * 6) (sym r.alike));
+    turn_places = priced.turn_places ∙ (f.units.turn_places ∙ ap (λ (m : ℕ). m * 6) (sym r.alike));
   }
 
   keys_now : KeysAreOf new at s p
@@ -136,7 +137,7 @@ module _ (live : HeldAreLive 0 key_of_item key_precedes) (first : FirstIsLeast 0
         let within = inside g below in
         let unit = f.units.each g within in
         f.stands.ranks g within ∙ unit_top live first old (queue_at before g) s (unit_of before g) (spans_at before g) (f.stands.units.each g within).stands unit.entries unit.spans);
-    turns = λ g below. ap (λ (ts : List (Option ℕ)). get_or ts (clutch_place (unit_of before g)) None) priced.turns ∙ f.turns g (inside g below);
+    turns = λ g below. priced.turns g (inside g below) ∙ f.turns g (inside g below);
     kept = λ g below. ap (λ (es : List Queued). list_any (λ (e : Queued). true) es) (priced.entries g (inside g below)) ∙ any_map (repriced s now) (clutch_entries s (unit_of before g));
     empty = λ g below none. (
         let k = unit_of before g in
@@ -154,6 +155,10 @@ pub holds_repriced : (old new : Arena Item) (before mid : Lane) (now : ℕ) (s :
 holds_repriced old new before mid now s bucket f r slot item has stored =
     let g = has.0 in
     let within = has.1.0 in
-    let count = (queue_at before g).count in
-    (repriced_item count now item, ((r.done g within within).values slot item has.1.1 stored,
-    entry_repriced s (unit_of before g) count now item ((f.stands.units.each g within).each slot item has.1.1 stored) bucket (f.units.each g within).count))
+    let count = (queue_at before g).count in (
+      repriced_item count now item,
+      (
+        (r.done g within within).values slot item has.1.1 stored,
+        entry_repriced s (unit_of before g) count now item ((f.stands.units.each g within).each slot item has.1.1 stored) bucket (f.units.each g within).count,
+      ),
+    )

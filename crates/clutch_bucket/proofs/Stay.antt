@@ -1,15 +1,14 @@
 -- A lane stays where its slots do.
 use Rattle.std.proofs.Common.{◌≡◌, ℕ, ◌<◌, Option, Some, None, refl, sym, ap, ◌∙◌, subst}
 use Rattle.std.specs.Prelude.{IfSome}
-use Rattle.flat_policy.specs.Policy.Queue.{Flat}
 use Rattle.flat_policy.specs.Policy.Usage.{Spans}
 use Rattle.sched_base.specs.declared.Bucket.{Bucket}
-use Rattle.link_arena.specs.Arena.{Arena, value_at}
+use Rattle.link_arena.specs.Arena.{Arena}
 use Rattle.pairing_heap.specs.Laws.{FirstIsLeast}
 use Rattle.thread_queue.specs.Item.{key_of_item, key_precedes}
 use Rattle.thread_queue.specs.Queue.{HasSlot, Queue, StandsIn}
 use Rattle.thread_queue.specs.declared.item.Item.{Item}
-use Rattle.clutch_bucket.specs.Lane.{Follows, Lane, LaneStands, groups, item_top, queue_at, slot_top, spans_at, unit_of}
+use Rattle.clutch_bucket.specs.Lane.{Lane, groups, item_top, queue_at, slot_top, spans_at, unit_of}
 use Rattle.clutch_bucket.specs.Laws.{LanesStand, LanesStay, SlotsStay}
 use Rattle.clutch_bucket.proofs.Units.{ValuesStay, follows_still, unit_stays}
 

@@ -1,12 +1,12 @@
 -- The priority of a clutch bucket is that of its queue's first item, with the score.
-use Rattle.std.proofs.Common.{◌≡◌, ℕ, ◌+◌, ◌≤◌, ◌<◌, ◌==◌, max, Bool, true, false, cond, Contains, List, [], ◌∷◌, Option, Some, None, IsSome, fold, map, refl, sym, ap, ap₂, ◌∙◌, subst, inl, inr, arith}
+use Rattle.std.proofs.Common.{◌≡◌, ℕ, ◌+◌, ◌≤◌, ◌==◌, max, true, false, Contains, List, [], ◌∷◌, Option, Some, None, IsSome, fold, map, refl, sym, ap, ap₂, ◌∙◌, subst, inl, inr, arith}
 use Rattle.std.specs.Prelude.{IfSome, is_some, nat_lt, int_lt, ◌&&◌}
 use Rattle.std.proofs.lemmas.Bool.{cond-true, cond-false, ltb-false, or_parts}
 use Rattle.flat_policy.specs.Policy.Moves.{clutch_has_entries}
 use Rattle.flat_policy.specs.Policy.Precedence.{clutch_priority, greatest_pri}
 use Rattle.flat_policy.specs.Policy.Queue.{Clutch, Flat, Queued, clutch_entries, spans_of}
 use Rattle.flat_policy.specs.Policy.Usage.{Spans, score}
-use Rattle.link_arena.specs.Arena.{Arena, IsLive, value_at}
+use Rattle.link_arena.specs.Arena.{Arena, value_at}
 use Rattle.pairing_heap.specs.Heap.{key_of_value, times_of}
 use Rattle.pairing_heap.specs.Laws.{FirstIsLeast, HeldAreLive}
 use Rattle.thread_queue.specs.Item.{entry_of, key_of_item, key_precedes}
@@ -70,11 +70,11 @@ first_top live least arena queue slot s k spans is stands are same =
     let valued = item_from (value_at arena slot) (live arena queue.root slot stands.heap held) in
     let member = are.there slot valued.0 held valued.1 in
     let each : (f : Queued) → Contains (clutch_entries s k) f → f.pri ≤ valued.0.pri = λ f c. (
-        let from = are.back f c in
-        let below = first.least slot from.0 (key_of_item valued.0) (key_of_item from.1) is
-        (ap (λ (o : Option Item). key_of_value key_of_item o) valued.1) from.2.0
-        (ap (λ (o : Option Item). key_of_value key_of_item o) from.2.1) in
-        subst (λ (e : Queued). e.pri ≤ valued.0.pri) from.2.2 (not_above from.1 valued.0 below)) in
+    let from = are.back f c in
+    let below = first.least slot from.0 (key_of_item valued.0) (key_of_item from.1) is
+    (ap (λ (o : Option Item). key_of_value key_of_item o) valued.1) from.2.0
+    (ap (λ (o : Option Item). key_of_value key_of_item o) from.2.1) in
+    subst (λ (e : Queued). e.pri ≤ valued.0.pri) from.2.2 (not_above from.1 valued.0 below)) in
     let greatest = greatest_is (clutch_entries s k) (entry_of valued.0) member each in
     ap (item_top k.bucket spans) valued.1
     ∙ (ap₂ (λ (g : ℕ) (sp : Spans). Some (g + score sp.used sp.blocked k.bucket)) (sym greatest) (sym same)

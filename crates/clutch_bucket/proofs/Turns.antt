@@ -1,7 +1,7 @@
 -- What the rules of turns come to by a unit's key.
-use Rattle.std.proofs.Common.{◌≡◌, ◌≢◌, ℕ, ◌+◌, ◌<◌, ◌==◌, Bool, true, false, cond, not, Option, Some, None, List, is_some, length, get_or, set, refl, sym, ap, ap₂, ◌∙◌, inl, inr, arith, eqb-true, eq-eqb}
+use Rattle.std.proofs.Common.{◌≡◌, ◌≢◌, ℕ, ◌+◌, ◌<◌, ◌==◌, Bool, true, false, cond, not, Option, Some, None, List, is_some, length, set, refl, sym, ap, ap₂, ◌∙◌, inl, inr, arith, eqb-true, eq-eqb}
 use Rattle.std.specs.Prelude.{◌||◌}
-use Rattle.std.proofs.lemmas.Bool.{cases_Bool, cond-true, cond-false, false≢true, or_parts, not-false, not_from_true, not_from_false}
+use Rattle.std.proofs.lemmas.Bool.{cases_Bool, cond-true, cond-false, false≢true, or_parts, not-false}
 use Rattle.std.proofs.lemmas.List.{get_or-set_other, get_or-set_same, length-set, set-get_or}
 use Rattle.flat_policy.specs.Policy.Moves.{clutch_has_entries, turn_on_entering, turn_on_leaving, turn_on_selection, with_next_turn, without_turn}
 use Rattle.flat_policy.specs.Policy.Precedence.{clutch_priority}
@@ -158,15 +158,15 @@ only_turns picked rank None k x = record { entries = refl; spans = refl; places 
 only_turns picked rank (Some p) k x =
     elim (cases_Bool (takes_turn picked rank (Some p))) [
       | inl e ↦ record {
-          entries = ap (λ (b : Bool). (cond b (with_next_turn k x) x).entries) e;
-          spans = ap (λ (b : Bool). (cond b (with_next_turn k x) x).spans) e;
-          places = ap (λ (b : Bool). length (cond b (with_next_turn k x) x).turns) e ∙ length-set x.turns (clutch_place k) (Some x.next_turn);
-          next = ap (λ (b : Bool). (cond b (with_next_turn k x) x).next_turn) e ∙ ap (λ (b : Bool). cond b (x.next_turn + 1) x.next_turn) (sym e);
-        }
+        entries = ap (λ (b : Bool). (cond b (with_next_turn k x) x).entries) e;
+        spans = ap (λ (b : Bool). (cond b (with_next_turn k x) x).spans) e;
+        places = ap (λ (b : Bool). length (cond b (with_next_turn k x) x).turns) e ∙ length-set x.turns (clutch_place k) (Some x.next_turn);
+        next = ap (λ (b : Bool). (cond b (with_next_turn k x) x).next_turn) e ∙ ap (λ (b : Bool). cond b (x.next_turn + 1) x.next_turn) (sym e);
+      }
       | inr e ↦ record {
-          entries = ap (λ (b : Bool). (cond b (with_next_turn k x) x).entries) e;
-          spans = ap (λ (b : Bool). (cond b (with_next_turn k x) x).spans) e;
-          places = ap (λ (b : Bool). length (cond b (with_next_turn k x) x).turns) e;
-          next = ap (λ (b : Bool). (cond b (with_next_turn k x) x).next_turn) e ∙ ap (λ (b : Bool). cond b (x.next_turn + 1) x.next_turn) (sym e);
-        }
+        entries = ap (λ (b : Bool). (cond b (with_next_turn k x) x).entries) e;
+        spans = ap (λ (b : Bool). (cond b (with_next_turn k x) x).spans) e;
+        places = ap (λ (b : Bool). length (cond b (with_next_turn k x) x).turns) e;
+        next = ap (λ (b : Bool). (cond b (with_next_turn k x) x).next_turn) e ∙ ap (λ (b : Bool). cond b (x.next_turn + 1) x.next_turn) (sym e);
+      }
     ]

@@ -1,22 +1,18 @@
 -- A lane where the slots of one unit are priced anew.
-use Rattle.std.proofs.Common.{◌≡◌, ◌≢◌, ℕ, ◌+◌, ◌≤◌, ◌<◌, Bool, true, false, Option, Some, None, IsSome, List, get_or, set, refl, sym, ap, ◌∙◌, subst, inl, inr, arith}
-use Rattle.std.specs.Prelude.{IfSome}
-use Rattle.std.proofs.lemmas.Bool.{cases_eq}
+use Rattle.std.proofs.Common.{◌≡◌, ◌≢◌, ℕ, ◌≤◌, ◌<◌, List, set, refl, sym, ap, subst, arith}
 use Rattle.std.proofs.lemmas.List.{set-get_or}
-use Rattle.sched_base.specs.declared.Bucket.{Bucket}
-use Rattle.flat_policy.specs.Policy.Queue.{Clutch, in_clutch, no_spans}
+use Rattle.flat_policy.specs.Policy.Queue.{Clutch, no_spans}
 use Rattle.flat_policy.specs.Policy.Usage.{Spans}
 use Rattle.link_arena.specs.Arena.{Arena, value_at}
-use Rattle.pairing_heap.specs.Laws.{FirstIsLeast, HeldAreLive}
-use Rattle.thread_queue.specs.Item.{entry_of, key_of_item, key_precedes}
+use Rattle.pairing_heap.specs.Laws.{HeldAreLive}
+use Rattle.thread_queue.specs.Item.{key_of_item, key_precedes}
 use Rattle.thread_queue.specs.Laws.{StaysIn}
-use Rattle.thread_queue.specs.Queue.{HasSlot, LacksSlot, Queue, StandsIn}
+use Rattle.thread_queue.specs.Queue.{HasSlot, Queue}
 use Rattle.thread_queue.specs.declared.item.Item.{Item}
-use Rattle.clutch_bucket.specs.Lane.{IsApartFrom, Lane, LaneStands, OtherQueuesStay, StaysFrom, UnitItem, UnitStands, UnitsStand, groups, item_top, queue_at, rank_at, rank_pri, slot_top, spans_at, top_at, unit_of}
-use Rattle.clutch_bucket.specs.Renewing.{renewed_turn, with_renewed}
+use Rattle.clutch_bucket.specs.Lane.{Lane, OtherQueuesStay, UnitItem, UnitStands, UnitsStand, groups, queue_at, spans_at, unit_of}
 use Rattle.clutch_bucket.specs.Repricing.{Reprices, repriced_item}
 use Rattle.clutch_bucket.proofs.Apart.{ApartStay, apart_within, others_stay, stays_from}
-use Rattle.clutch_bucket.proofs.Lanes.{changed_at, groups_changed, lane_renewed, queue_here, queue_other, spans_other, units_changed}
+use Rattle.clutch_bucket.proofs.Lanes.{changed_at, groups_changed, units_changed}
 use Rattle.clutch_bucket.proofs.Tops.{item_from}
 use Rattle.clutch_bucket.proofs.Units.{ValuesStay, one_item, unit_stays}
 

@@ -1,19 +1,17 @@
 -- What a unit keeps where the arena changes, and what it has once a slot came in or went out.
-use Rattle.std.proofs.Common.{◌≡◌, ◌≢◌, ◌⊎◌, ℕ, ◌+◌, ◌<◌, ◌==◌, Bool, true, false, cond, not, Contains, List, [], ◌∷◌, ◌++◌, Option, Some, None, filter, length, refl, sym, ap, ◌∙◌, subst, inl, inr, arith, eqb-true, eq-eqb, length-append}
-use Rattle.std.proofs.lemmas.Bool.{cases_eq, cond-true, cond-false, ne_eqb, not_from_false}
+use Rattle.std.proofs.Common.{◌≡◌, ◌≢◌, ◌⊎◌, ℕ, ◌+◌, ◌<◌, Bool, cond, Contains, List, [], ◌∷◌, ◌++◌, Option, Some, length, refl, sym, ap, ◌∙◌, subst, inl, inr, arith, eq-eqb, length-append}
+use Rattle.std.proofs.lemmas.Bool.{cases_eq, ne_eqb}
 use Rattle.std.proofs.lemmas.List.Elements.{Contains-append_left, Contains-push, Contains-push_cases}
-use Rattle.flat_policy.specs.Policy.Moves.{without}
-use Rattle.flat_policy.specs.Policy.Queue.{Clutch, Flat, Queued, clutch_entries, in_clutch, spans_of}
+use Rattle.flat_policy.specs.Policy.Queue.{Clutch, Flat, Queued, clutch_entries, spans_of}
 use Rattle.flat_policy.specs.Policy.Usage.{Spans}
 use Rattle.link_arena.specs.Arena.{Arena, value_at}
 use Rattle.pairing_heap.specs.Heap.{times_of}
 use Rattle.thread_queue.specs.Item.{entry_of}
-use Rattle.thread_queue.specs.Laws.{AreEntries, StaysIn}
-use Rattle.thread_queue.specs.Queue.{HasSlot, LacksSlot, Pushes, Queue, Removes, StandsIn, times_in}
+use Rattle.thread_queue.specs.Laws.{StaysIn}
+use Rattle.thread_queue.specs.Queue.{HasSlot, LacksSlot, Pushes, Queue, Removes, times_in}
 use Rattle.thread_queue.specs.declared.item.Item.{Item}
 use Rattle.thread_queue.specs.declared.item.ItemKey.{ItemKey}
-use Rattle.clutch_bucket.specs.Lane.{ArrivalsDiffer, UnitFollows, UnitItem, UnitStands}
-use Rattle.clutch_bucket.proofs.Members.{filter_member, member_of_filter}
+use Rattle.clutch_bucket.specs.Lane.{UnitFollows, UnitItem, UnitStands}
 
 -- one slot holds one item
 pub one_item : (arena : Arena Item) (slot : ℕ) (x y : Item) → value_at arena slot ≡ Some x → value_at arena slot ≡ Some y → x ≡ y
@@ -109,7 +107,7 @@ pub follows_pushed : (old new : Arena Item) (queue later : Queue) (spans after :
 follows_pushed old new queue later spans after slot item s next k pushes stored fresh entries is follows =
     let value = λ (other : ℕ) (rival : Item) (there : value_at new other ≡ Some rival). sym (pushes.adds.kept.values other) ∙ there in
     let alone = λ (other : ℕ) (rival : Item) (h : HasSlot old queue other) (there : value_at new other ≡ Some rival) (alike : rival.arrival ≡ item.arrival).
-        fresh (entry_of rival) (follows.entries.there other rival h (value other rival there)) alike in
+    fresh (entry_of rival) (follows.entries.there other rival h (value other rival there)) alike in
     let same = λ (other : ℕ) (rival : Item) (e : slot ≡ other) (there : value_at new other ≡ Some rival). one_item old other item rival (ap (value_at old) (sym e) ∙ stored) (value other rival there) in
     record {
       entries = record {

@@ -1,6 +1,6 @@
 -- The units of one unbound lane, one for each group, and the queue of a cluster that they follow.
 use Rattle.std.specs.List.{sum_by}
-use Rattle.std.specs.Prelude.{Bool, Contains, List, None, Option, Some, count_by, false, if◌then◌else◌, is_some, length, map, not, slice_index_or, slice_set, true, ℕ, [], ◌&&◌, ◌*◌, ◌++◌, ◌+◌, ◌<◌, ◌==◌, ◌||◌, ◌∷◌, ◌≡◌, ◌≢◌, ◌≤◌}
+use Rattle.std.specs.Prelude.{Bool, Contains, List, None, Option, Some, false, if◌then◌else◌, length, map, slice_index_or, slice_set, true, ℕ, [], ◌*◌, ◌++◌, ◌+◌, ◌<◌, ◌∷◌, ◌≡◌, ◌≢◌, ◌≤◌}
 use Rattle.sched_base.specs.declared.Bucket.{Bucket}
 use Rattle.flat_policy.specs.Policy.Moves.{turn_on_entering, turn_on_leaving, turn_on_selection, without}
 use Rattle.flat_policy.specs.Policy.Queue.{Clutch, Flat, Queued, clutch_entries, clutch_of, clutch_place, in_clutch, in_lane, lane, lane_entries, no_spans, spans_of, turn_of}
@@ -8,7 +8,6 @@ use Rattle.flat_policy.specs.Policy.Precedence.{precedes_in_lane}
 use Rattle.flat_policy.specs.Policy.Refresh.{repriced}
 use Rattle.flat_policy.specs.Policy.Unpreceded.{unpreceded}
 use Rattle.flat_policy.specs.Policy.Usage.{Spans, score, with_spans}
-use Rattle.flat_policy.specs.Policy.WellFormed.{WellFormed}
 use Rattle.sched_base.specs.Limits.{most_base}
 use Rattle.link_arena.specs.Arena.{Arena, links_at, value_at}
 use Rattle.thread_queue.specs.Item.{entry_of}
@@ -166,7 +165,8 @@ pub record LanePriced (groups now : ℕ) (s priced : Flat) (b : Bucket) : Type 0
   pub entries : (group : ℕ) → group < groups
       → clutch_entries priced (record { group = group; bucket = b }) ≡ map (repriced s now) (clutch_entries s (record { group = group; bucket = b }))
   pub spans : priced.spans ≡ s.spans
-  pub turns : priced.turns ≡ s.turns
+  pub turns : (group : ℕ) → group < groups → turn_of priced (record { group = group; bucket = b }) ≡ turn_of s (record { group = group; bucket = b })
+  pub turn_places : length priced.turns ≡ length s.turns
   pub len : length (lane_entries priced (lane b false)) ≡ length (lane_entries s (lane b false))
 
 -- the slot holds what pricing anew makes of its entry

@@ -63,7 +63,7 @@ impl Model for LaneUnits {
     ghost invariant = { λ l.
         (length l.stats.items ≡ length l.queues.items)
         × ((length l.ranks ≡ length l.queues.items)
-        × ((length l.queues.items ≤ 64) × (4096 ≤ vec_capacity l.slots))) };
+        × ((length l.queues.items ≤ 64) × ((4096 ≤ vec_capacity l.slots) × (l.len ≤ 4096)))) };
 }
 
 impl LaneUnits {
@@ -171,12 +171,7 @@ impl LaneUnits {
     }
 
     // Renews the keys of all units, in order of groups, after their entries were priced anew.
-    fn renew_all<L: Ledger>(
-        &mut self,
-        arena: &Arena<Item>,
-        turns: &mut u64,
-        steps: &mut Steps<L>,
-    )
+    fn renew_all<L: Ledger>(&mut self, arena: &Arena<Item>, turns: &mut u64, steps: &mut Steps<L>)
         requires units { UnitsStand arena.now self.old }
         requires turn { turns.old < 2 ^ 63 - 64 }
         ensures same { self.new ≡ record self.old { ranks = self.new.ranks } }

@@ -1,6 +1,5 @@
 //! Laws of lanes, for whatever holds an arena and several lanes. Each is the contract of a function that does nothing.
 
-
 ghost use Rattle.clutch_bucket.specs.Laws.{LanesStand, LanesStay};
 
 use pairing_heap::laws as heaps;

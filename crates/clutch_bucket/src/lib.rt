@@ -1,12 +1,14 @@
 //! The units of one unbound lane: a queue for each group, and which unit goes first.
 //!
-//! All times are whole microseconds. Only `LaneUnits::new` takes memory.
+//! A thread enters its unit, and is picked (a caller in the tests of `lane`):
 //!
-//! ```text
+//! ```
 //! lane.enter(&mut arena, slot, 3000, 10_000, &mut turns, &mut steps);
 //! assert_eq!(rt; lane.best(&arena), Some(slot));
 //! lane.remove(&mut arena, slot, true, &mut turns, &mut steps);
 //! ```
+//!
+//! All times are whole microseconds. Only `LaneUnits::new` and `Ranks::new` take memory.
 #![tactic(auto)]
 
 mod lane;

@@ -32,7 +32,6 @@ impl LaneUnits {
     ) -> u32
         requires stands { LaneStands arena.old self.old }
         requires bucket { self.old.bucket ≢ Ui }
-        requires room { self.old.len ≤ 4096 }
         requires turn { turns.old < 2 ^ 63 - 64 }
         ensures stands { LaneStands arena.new self.new }
         ensures follows { (s p : Flat) → Follows arena.old self.old s → WellFormed (groups self.old) s → LanePriced (groups self.old) now s p self.old.bucket → turns.old ≡ p.next_turn
@@ -54,6 +53,8 @@ impl LaneUnits {
         queue_laws();
         queues::slots_stand_once();
         queues::walk_counts_slots();
+        // A proof knows what a lane keeps, here that it has 4096 entries at most, where a field is read.
+        let _len = self.len;
         let changed = self.reprice_all(arena, now, steps);
         self.renew_all(arena, turns, steps);
         changed

@@ -1,4 +1,4 @@
-use Rattle.std.proofs.Common.{◌≡◌, ◌+◌, ◌++◌, ℕ, List, cond, drop_of_length-le, refl, sym, ap, subst, ◌∙◌, arith}
+use Rattle.std.proofs.Common.{◌≡◌, ◌+◌, ◌++◌, ℕ, List, cond, drop_of_length-le, sym, ap, subst, ◌∙◌, arith}
 use Rattle.thread_queue.specs.Queue.{walk_of}
 use Rattle.clutch_bucket.proofs.PricedAnew.{RepricedBut, reprices_begin}
 use Rattle.clutch_bucket.proofs.PricedAlong.{held_next, repriced_all, repriced_next, told_all}

@@ -1,4 +1,4 @@
-use Rattle.std.specs.Prelude.{drop, vec_capacity, ◌≡◌, ◌≤◌}
+use Rattle.std.specs.Prelude.{drop, ◌≤◌}
 use Rattle.clutch_bucket.proofs.PricedAnew.{RepricedBut}
 use Rattle.clutch_bucket.proofs.repricing.refresh_queue.Given as goal
 

@@ -1,5 +1,5 @@
 -- The first slot of the first unit's queue.
-use Rattle.std.proofs.Common.{◌≡◌, ◌<◌, List, Option, Some, None, ℕ, ap, is_some, ◌∙◌, subst, sym}
+use Rattle.std.proofs.Common.{◌≡◌, ◌<◌, List, Option, ℕ, ap, is_some, ◌∙◌, subst, sym}
 use Rattle.std.proofs.lemmas.Bool.{false≢true}
 use Rattle.thread_queue.specs.Queue.{IsFirst, Queue, StandsIn}
 use Rattle.clutch_bucket.specs.Lane.{IsBest, Lane, no_queue, queue_at, rank_at}

@@ -1,5 +1,5 @@
 -- All entries are priced anew, and then the keys are renewed.
-use Rattle.std.proofs.Common.{◌≡◌, ℕ, ap, sym, ◌∙◌, subst}
+use Rattle.std.proofs.Common.{◌≡◌, ◌≤◌, ℕ, ap, sym, ◌∙◌, subst}
 use Rattle.sched_base.specs.declared.Bucket.{Bucket}
 use Rattle.flat_policy.specs.Laws.Refreshing.{with_turns_of}
 use Rattle.clutch_bucket.specs.Lane.{Follows, IsApartFrom, Lane, groups}
@@ -46,3 +46,6 @@ returns-clause-queues g c = λ other there apart.
       stays = kept.stays;
       apart = subst (λ (l : Lane). IsApartFrom c.reprice_all-changed.new.arena l other) (sym c.renew_all.ensures.same) kept.apart;
     }
+
+pub reprice_all-changed-requires-clause-room : goal.reprice_all-changed-requires-clause-room
+reprice_all-changed-requires-clause-room g c = subst (λ (l : Lane). l.len ≤ 4096) c.self.view_is c.self.invariant.1.1.1.1

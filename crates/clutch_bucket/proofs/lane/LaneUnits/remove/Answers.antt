@@ -1,7 +1,7 @@
 -- A slot goes out of its group's queue, and the key of the group's unit is renewed.
-use Rattle.std.proofs.Common.{◌≡◌, ℕ, ◌<◌, ap, sym, ◌∙◌, subst}
+use Rattle.std.proofs.Common.{ℕ, ◌<◌, ap, sym, subst}
 use Rattle.thread_queue.specs.Queue.{HasSlot}
-use Rattle.clutch_bucket.specs.Lane.{Lane, UnitsStand, groups, queue_at}
+use Rattle.clutch_bucket.specs.Lane.{Lane, groups, queue_at}
 use Rattle.clutch_bucket.proofs.Left.{group_of_slot, remove_arena, remove_follows, remove_groups, remove_lacks, remove_len, remove_queues, remove_stands, left_is, left_units_are}
 use Rattle.clutch_bucket.proofs.Leaving.{Leaves, left_inside}
 use Rattle.clutch_bucket.proofs.lane.LaneUnits.remove.Goals as goal

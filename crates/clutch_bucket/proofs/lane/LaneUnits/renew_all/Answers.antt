@@ -1,6 +1,6 @@
 -- The keys of the units, one after the other.
-use Rattle.std.proofs.Common.{◌≡◌, ◌<◌, ◌≤◌, ◌+◌, ℕ, suc, false, List, Option, None, get_or, set, refl, sym, ap, ◌∙◌, subst, arith}
-use Rattle.clutch_bucket.specs.Lane.{Lane, LaneStands, Follows, UnitsStand, groups, rank_at, top_at}
+use Rattle.std.proofs.Common.{◌≡◌, ◌+◌, ℕ, suc, false, List, Option, None, get_or, set, refl, sym, ap, ◌∙◌, subst, arith}
+use Rattle.clutch_bucket.specs.Lane.{Lane, LaneStands, UnitsStand, groups, rank_at, top_at}
 use Rattle.clutch_bucket.specs.Renewing.{renewed_rank, renewed_turn, with_renewed}
 use Rattle.clutch_bucket.specs.declared.ranks.UnitKey.{UnitKey}
 use Rattle.clutch_bucket.proofs.RenewedKeys.{RenewedTo, all_follow_by, all_stand, none_renewed, renews_one, units_with}

@@ -1,5 +1,5 @@
 -- The units are priced anew, one after the other.
-use Rattle.std.proofs.Common.{◌≡◌, ◌<◌, ◌≤◌, ◌+◌, ◌*◌, ℕ, suc, refl, sym, ap, ◌∙◌, subst, arith}
+use Rattle.std.proofs.Common.{◌≡◌, ◌<◌, ◌+◌, ℕ, suc, refl, ap, ◌∙◌, subst, arith}
 use Rattle.clutch_bucket.specs.Lane.{Lane, groups, queue_at}
 use Rattle.clutch_bucket.specs.Repricing.{PricedUpTo, changed_in, changed_upto}
 use Rattle.clutch_bucket.proofs.LanePriced.{changed_stays, count_most, prices_begin, prices_step}

@@ -1,5 +1,5 @@
 -- The first key has the priority of the first clutch bucket.
-use Rattle.std.proofs.Common.{◌≡◌, ◌<◌, List, Option, Some, None, ℕ, ap, get_or, is_some, ◌∙◌, subst, sym}
+use Rattle.std.proofs.Common.{◌<◌, List, Option, None, ℕ, ap, get_or, is_some, ◌∙◌, subst, sym}
 use Rattle.std.proofs.lemmas.Bool.{false≢true, true≢false}
 use Rattle.clutch_bucket.specs.Lane.{Lane, rank_at}
 use Rattle.clutch_bucket.specs.Ranks.{IsFirstUnit}

@@ -1,6 +1,5 @@
 -- A priority of 127 at the most and a score of 16 at the most fit together.
-use Rattle.std.proofs.Common.{◌≡◌, Option, Some, ℕ, ap, arith, subst, sym}
-use Rattle.std.specs.Prelude.{IfSome}
+use Rattle.std.proofs.Common.{◌≡◌, ℕ, ap, arith, subst, sym}
 use Rattle.thread_queue.specs.Queue.{HasSlot, IsFirst, Queue, StandsIn}
 use Rattle.clutch_bucket.specs.Lane.{no_queue, queue_at}
 use Rattle.clutch_bucket.proofs.Reading.{from_some, read_at}
