@@ -1,0 +1,7 @@
+pub mod Ranks
+pub mod Lane
+pub mod Renewing
+pub mod UnitOrder
+pub mod KeptRanks
+pub mod Repricing
+pub mod Laws
