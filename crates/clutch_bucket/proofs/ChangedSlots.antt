@@ -10,17 +10,17 @@ use Rattle.flat_policy.specs.Policy.Usage.{Spans}
 use Rattle.flat_policy.specs.Policy.WellFormed.{ArrivalsRise, EachQueued}
 use Rattle.link_arena.specs.Arena.{Arena, value_at}
 use Rattle.thread_queue.specs.Item.{entry_of}
-use Rattle.thread_queue.specs.Laws.{SlotsStandOnce, WalkCountsSlots}
-use Rattle.thread_queue.specs.Queue.{HasSlot, Queue, walk_of}
+use Rattle.thread_queue.specs.Laws.{AreEntries, SlotsStandOnce, WalkCountsSlots}
+use Rattle.thread_queue.specs.Queue.{HasSlot, Queue, StandsIn, walk_of}
 use Rattle.thread_queue.specs.declared.item.Item.{Item}
-use Rattle.clutch_bucket.specs.Lane.{Follows, Lane, UnitFollows, UnitStands, groups, queue_at, unit_of}
+use Rattle.clutch_bucket.specs.Lane.{ArrivalsDiffer, Follows, Lane, UnitFollows, UnitStands, groups, queue_at, unit_of}
 use Rattle.clutch_bucket.specs.Repricing.{changed_in, changed_upto, changes_pri}
 use Rattle.clutch_bucket.proofs.ChangedCount.{Unlike, no_more, unlike_rising}
 use Rattle.clutch_bucket.proofs.Clutches.{clutch_in_lane, lane_of_clutch, parts_of_clutch}
 use Rattle.clutch_bucket.proofs.LanePriced.{member_counts}
 use Rattle.clutch_bucket.proofs.Members.{first_member, later_member, member_cases, no_member}
 use Rattle.clutch_bucket.proofs.PricedAnew.{count_cons, times_among}
-use Rattle.clutch_bucket.proofs.Repriced.{entry_repriced}
+use Rattle.clutch_bucket.proofs.Repriced.{PricedAsEntries, unit_as_entries}
 
 -- the entries at some slots
 abbrev pub with_entry : Option Item → List Queued → List Queued
@@ -119,26 +119,32 @@ counts_member (y ∷ ys) x some =
 abbrev pub changed : Flat → ℕ → Queued → Bool
 changed s now e = not ((repriced s now e).pri == e.pri)
 
-unit_changed : WalkCountsSlots → SlotsStandOnce → (arena : Arena Item) (queue : Queue) (now : ℕ) (used : Spans) (s : Flat) (k : Clutch) → k.bucket ≢ Ui → UnitStands arena k queue → UnitFollows arena queue used s k → ArrivalsRise s.entries
-    → changed_in arena queue now ≡ count_by (changed s now) (clutch_entries s k)
-unit_changed walk single arena queue now used s k bucket stands follows rise =
+-- as many priorities change by the slots of a queue as by the entries that it holds, which are those of a cluster's queue that pass a test
+pub queue_changed : WalkCountsSlots → SlotsStandOnce → (arena : Arena Item) (queue : Queue) (now : ℕ) (s : Flat) (p : Queued → Bool) → StandsIn arena queue → AreEntries arena queue (filter p s.entries) → ArrivalsDiffer arena queue → PricedAsEntries arena queue now s → ArrivalsRise s.entries
+    → changed_in arena queue now ≡ count_by (changed s now) (filter p s.entries)
+queue_changed walk single arena queue now s p stands are apart as_entries rise =
     let q = changed s now in
     let slots = walk_of arena queue in
     let held : (slot : ℕ) → Contains slots slot → HasSlot arena queue slot = (λ slot c. let some = member_counts slots slot c in let same = walk arena queue slot in omega (arith, some, same)) in
     let by_entries : changed_in arena queue now ≡ count_by q (entries_at arena slots) =
     counted_at arena queue.count now q slots (λ slot item c is.
-    ap (λ (e : Queued). not (e.pri == item.pri)) (entry_repriced s k queue.count now item (stands.each slot item (held slot c) is) bucket follows.count)) in
+    ap (λ (e : Queued). not (e.pri == item.pri)) (as_entries slot item (held slot c) is)) in
     let unlike = unlike_at arena slots
-    (λ slot. let same = walk arena queue slot in let most = single arena queue stands.stands slot in omega (arith, same, most))
-    (λ i j x y ci cj vx vy same. follows.apart i j x y (held i ci) (held j cj) vx vy same) in
-    let most = no_more q (entries_at arena slots) (clutch_entries s k) unlike (λ e c.
+    (λ slot. let same = walk arena queue slot in let most = single arena queue stands slot in omega (arith, same, most))
+    (λ i j x y ci cj vx vy same. apart i j x y (held i ci) (held j cj) vx vy same) in
+    let most = no_more q (entries_at arena slots) (filter p s.entries) unlike (λ e c.
     let r = lies arena slots e c in
-    subst (λ (f : Queued). Contains (clutch_entries s k) f) r.2.2 (follows.entries.there r.0 r.1 (held r.0 r.2.0) r.2.1)) in
-    let least = no_more q (clutch_entries s k) (entries_at arena slots) (unlike_rising (in_clutch k) s.entries rise) (λ e c.
-    let from = follows.entries.back e c in
+    subst (λ (f : Queued). Contains (filter p s.entries) f) r.2.2 (are.there r.0 r.1 (held r.0 r.2.0) r.2.1)) in
+    let least = no_more q (filter p s.entries) (entries_at arena slots) (unlike_rising p s.entries rise) (λ e c.
+    let from = are.back e c in
     let there = counts_member slots from.0 (let has = from.2.0 in let same = walk arena queue from.0 in omega (arith, has, same)) in
     subst (λ (f : Queued). Contains (entries_at arena slots) f) from.2.2 (entry_at_slot arena slots from.0 from.1 there from.2.1)) in
     omega (arith, by_entries, most, least)
+
+unit_changed : WalkCountsSlots → SlotsStandOnce → (arena : Arena Item) (queue : Queue) (now : ℕ) (used : Spans) (s : Flat) (k : Clutch) → k.bucket ≢ Ui → UnitStands arena k queue → UnitFollows arena queue used s k → ArrivalsRise s.entries
+    → changed_in arena queue now ≡ count_by (changed s now) (clutch_entries s k)
+unit_changed walk single arena queue now used s k bucket stands follows rise =
+    queue_changed walk single arena queue now s (in_clutch k) stands.stands follows.entries follows.apart (unit_as_entries arena queue now used s k bucket stands follows) rise
 
 -- how many entries of the clutch buckets of the groups below a number pass a test
 clutch_sum : (Queued → Bool) → Bucket → List Queued → ℕ → ℕ

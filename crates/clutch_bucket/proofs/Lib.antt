@@ -27,3 +27,4 @@ pub mod RenewedKeys
 pub mod Repriced
 pub mod ChangedCount
 pub mod ChangedSlots
+pub mod BoundPriced

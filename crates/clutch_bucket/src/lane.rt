@@ -107,9 +107,10 @@ impl LaneUnits {
         })
     }
 
-    /// How many entries the units have together.
+    /// How many entries the units have together, at most 4096.
     pub fn len(&self) -> u32
         ensures len { result ≡ self.now.len }
+        ensures most { result ≤ 4096 }
         ensures follows { (arena : Map Stored) (s : Flat) → Follows arena self.now s → result ≡ length (lane_entries s (lane self.now.bucket false)) }
     {
         self.len
