@@ -11,6 +11,7 @@ pub mod LinesBack
 pub mod Naming
 pub mod NoAct
 pub mod NoWord
+pub mod NotNext
 pub mod OneDigit
 pub mod OneLine
 pub mod PiecesAgain

@@ -1,5 +1,5 @@
 -- What a reader of the code answers, against the definitions of lines.
-use Rattle.std.specs.Prelude.{Bool, Err, List, None, Ok, Option, Result, Some, [], false, if◌then◌else◌, nat_lt, suc, zero, ℕ, ◌≡◌, ◌≢◌, ◌≤◌, ◌^◌, ◌∷◌}
+use Rattle.std.specs.Prelude.{Bool, Err, List, None, Ok, Option, Result, Some, [], false, if◌then◌else◌, nat_lt, suc, zero, ℕ, ◌≡◌, ◌≢◌, ◌≤◌, ◌-◌, ◌^◌, ◌∷◌}
 use Rattle.std.specs.Borrow.{Bor}
 use Rattle.std.specs.List.{list_all}
 use Rattle.flat_policy.specs.declared.texts.LineFault.{LineFault}
@@ -33,6 +33,10 @@ is_next word (p ∷ ps) = same_text word p
 -- the next piece is a numeral of this value, whatever may be the most that it may write, and these are behind it
 abbrev pub IsNumberNext : List (List ℕ) → ℕ → List (List ℕ) → Type 0
 IsNumberNext ps n rest = (most : ℕ) → n ≤ most → next_piece (number_within most) ps ≡ Ok (n, rest)
+
+-- the greatest number of 19 digits
+abbrev pub most_of_19_digits : ℕ
+most_of_19_digits = 10 ^ 19 - 1
 
 -- these pieces stand behind one that ends where a text begins
 abbrev pub Follows : List ℕ → List (List ℕ) → Type 0

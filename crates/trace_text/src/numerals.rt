@@ -1,6 +1,6 @@
 //! Numerals.
 
-ghost use Rattle.std.specs.Prelude.{◌≡◌, ◌≤◌, ◌+◌, ◌*◌, ℕ, IsTrue, length, take, true};
+ghost use Rattle.std.specs.Prelude.{◌≡◌, ◌≤◌, ◌<◌, ◌+◌, ◌*◌, ◌^◌, ℕ, IsTrue, get_or, length, take, true};
 ghost use Rattle.std.specs.List.{list_all};
 ghost use Rattle.flat_policy.specs.Texts.Pieces.{number_within, is_digit, is_numeral, digit_value, numeral_value};
 ghost use Rattle.trace_text.specs.Reading.{Gives, within_64, digits_read};
@@ -10,14 +10,16 @@ use flat_policy::texts::LineFault;
 /// Below this a number may have one more digit in 64 bits.
 const ROOM_FOR_A_DIGIT: u64 = 1_000_000_000_000_000_000;
 
-/// The number that the digits at the front write, and how many they are: all of them, or as many as
-/// 64 bits surely hold.
+/// The number that the digits at the front write, and how many they are: all of them, or those up to
+/// the first that takes the number to 10^18 or above. So it is below 10^19.
 #[inline(always)]
 #[tactic(auto, using(crate::proofs::Scanning::digits_more, crate::proofs::Scanning::value_more))]
 pub fn leading_number(text: &[u8]) -> (u64, usize)
     ensures within { result.1 ≤ length text.now }
     ensures digits { list_all is_digit (take result.1 text.now) ≡ true }
     ensures value { result.0 ≡ numeral_value (take result.1 text.now) }
+    ensures below { result.0 < 10 ^ 19 }
+    ensures all { result.1 < length text.now → is_digit (get_or text.now result.1 0) ≡ true → 10 ^ 18 ≤ result.0 }
 {
     let mut number: u64 = 0;
     for count in 0..text.len() {
@@ -36,7 +38,7 @@ pub fn leading_number(text: &[u8]) -> (u64, usize)
 pub fn begins_with_numeral(text: &[u8], count: usize) -> bool
     requires within { count ≤ length text.now }
     requires digits { list_all is_digit (take count text.now) ≡ true }
-    ensures { result ≡ true → is_numeral (take count text.now) ≡ true }
+    ensures { result ≡ is_numeral (take count text.now) }
 {
     if count <= 1 {
         return count == 1;

@@ -1,9 +1,20 @@
 //! The pieces of a line, one after the other.
 
 ghost use Rattle.std.specs.Prelude.{◌≡◌, ◌∷◌, ◌↔◌, [], IfSome, IfNone, IsTrue, false, length, take, true};
-ghost use Rattle.std.specs.Option.{option_copied};
-ghost use Rattle.flat_policy.specs.Texts.Pieces.{pieces, next_piece, at_end};
-ghost use Rattle.trace_text.specs.Reading.{BeginsPlain, Follows, Gives, IsNumberNext, left, as_it_is, is_next, piece_among};
+ghost use Rattle.std.specs.Option.{is_some, option_copied};
+ghost use Rattle.std.specs.Result.{is_ok};
+ghost use Rattle.flat_policy.specs.Texts.Pieces.{pieces, next_piece, number_within, at_end};
+ghost use Rattle.trace_text.specs.Reading.{
+  BeginsPlain,
+  Follows,
+  Gives,
+  IsNumberNext,
+  left,
+  as_it_is,
+  is_next,
+  most_of_19_digits,
+  piece_among,
+};
 ghost use Rattle.trace_text.specs.Spaces.{IsFirstSpace, HasNoSpace, is_plain};
 
 use crate::numerals::{begins_with_numeral, leading_number};
@@ -102,12 +113,13 @@ pub fn behind_word<'a>(text: &'a [u8], word: &[u8]) -> Option<Pieces<'a>>
     Some(rest)
 }
 
-/// The number that the next piece writes, and the pieces behind it; `None` where that piece is no
-/// numeral, and where it is one of more than 19 digits.
+/// The number that the next piece writes, and the pieces behind it; `None` exactly where no piece is
+/// left, where the next is no numeral, and where it is one of more than 19 digits.
 #[inline(always)]
 #[tactic(auto, using(crate::proofs::Scanning::number_next))]
 pub fn next_number(pieces: Pieces<'_>) -> Option<(u64, Pieces<'_>)>
-    ensures { IfSome result (λ x. IsNumberNext (left pieces.entry) x.0 (left x.1)) }
+    ensures number { IfSome result (λ x. IsNumberNext (left pieces.entry) x.0 (left x.1)) }
+    ensures some { is_some result ≡ is_ok (next_piece (number_within most_of_19_digits) (left pieces.entry)) }
 {
     let text = pieces.rest?;
     let (number, count) = leading_number(text);
@@ -118,11 +130,13 @@ pub fn next_number(pieces: Pieces<'_>) -> Option<(u64, Pieces<'_>)>
     Some((number, rest))
 }
 
-/// The number that the next piece writes, and the pieces behind it, where that piece is one digit.
+/// The number that the next piece writes, and the pieces behind it; `None` exactly where the next
+/// piece is not one digit.
 #[inline(always)]
 #[tactic(auto, using(crate::proofs::OneDigit::digit_front))]
 pub fn next_digit(pieces: Pieces<'_>) -> Option<(u8, Pieces<'_>)>
-    ensures { IfSome result (λ x. IsNumberNext (left pieces.entry) x.0 (left x.1)) }
+    ensures number { IfSome result (λ x. IsNumberNext (left pieces.entry) x.0 (left x.1)) }
+    ensures some { is_some result ≡ is_ok (next_piece (number_within 9) (left pieces.entry)) }
 {
     let text = pieces.rest?;
     if text.is_empty() {
