@@ -1,0 +1,4 @@
+use Rattle.cluster_queue.proofs.heaps.Heaps.refresh_uncounted.Given as goal
+
+abbrev pub ghosts-refresh_by : goal.ghosts-refresh_by
+ghosts-refresh_by a = record { name = a.blank.name; parts = a.blank.parts }
