@@ -13,7 +13,7 @@ use crate::load::load;
 use crate::replay::replay;
 use crate::status::ReplayStatus;
 use crate::words::{Asked, asked_for};
-use plain_cluster::PlainCluster;
+use cluster_queue::ClusterQueue;
 use ports::{Sink, Source};
 use std::alloc::Global;
 
@@ -57,8 +57,8 @@ pub fn replay_main<S: Source, K: Sink>(
     ensures write_exact { IsTrue K.is_exact → PutsOnce (K.faults sink.old) (K.faults sink.new) (K.is_failing sink.new) result }
 {
     match asked_for(alloc, words) {
-        Ok(Asked::Replay) => replay::<PlainCluster, S, K>(alloc, source, sink),
-        Ok(Asked::Load { seed, steps }) => load::<PlainCluster, K>(alloc, seed, steps, sink),
+        Ok(Asked::Replay) => replay::<ClusterQueue, S, K>(alloc, source, sink),
+        Ok(Asked::Load { seed, steps }) => load::<ClusterQueue, K>(alloc, seed, steps, sink),
         Err(status) => status,
     }
 }

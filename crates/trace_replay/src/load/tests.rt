@@ -2,6 +2,7 @@
 
 use super::load;
 use crate::ReplayStatus;
+use cluster_queue::ClusterQueue;
 use plain_cluster::PlainCluster;
 use ports::ByteSink;
 use std::test::Fail;
@@ -13,7 +14,7 @@ const ROW: &str =
 #[test]
 fn one_step_gives_its_row(rt: HostRuntime) -> Result<(), Fail> {
     let mut sink = ByteSink::new(rt.alloc(), 200, 7, Vec::new(rt.alloc()))?;
-    let status = load::<PlainCluster, ByteSink>(rt.alloc(), 7, 1, &mut sink);
+    let status = load::<ClusterQueue, ByteSink>(rt.alloc(), 7, 1, &mut sink);
     assert_eq!(rt; status, ReplayStatus::Done);
     assert_eq!(rt; sink.bytes(), ROW.as_bytes());
     Ok(())
@@ -30,7 +31,7 @@ fn a_load_stops_at_the_put_that_fails(rt: HostRuntime) -> Result<(), Fail> {
     ] {
         let fails = Vec::from_slice(rt.alloc(), &[fail])?;
         let mut sink = ByteSink::new(rt.alloc(), 200, 40, fails)?;
-        let status = load::<PlainCluster, ByteSink>(rt.alloc(), 7, 1, &mut sink);
+        let status = load::<ClusterQueue, ByteSink>(rt.alloc(), 7, 1, &mut sink);
         assert_eq!(rt; status, answer, "{fail}");
         assert!(rt; taken <= ROW.len());
         assert_eq!(rt; sink.bytes(), &ROW.as_bytes()[..taken], "{fail}");
@@ -38,12 +39,17 @@ fn a_load_stops_at_the_put_that_fails(rt: HostRuntime) -> Result<(), Fail> {
     Ok(())
 }
 
-/// A load of many steps ends, and its threads are let go.
+/// A load of many steps ends, its threads are let go, and nested heaps give the bytes that a plain list gives.
 #[test]
-fn a_load_of_many_steps_is_done(rt: HostRuntime) -> Result<(), Fail> {
-    let mut sink = ByteSink::new(rt.alloc(), 400, 400, Vec::new(rt.alloc()))?;
-    let status = load::<PlainCluster, ByteSink>(rt.alloc(), 7, 2000, &mut sink);
-    assert_eq!(rt; status, ReplayStatus::Done);
-    assert!(rt; sink.bytes().starts_with(b"load 7 steps 2000\n"));
+fn a_load_of_many_steps_is_the_same_over_both_clusters(rt: HostRuntime) -> Result<(), Fail> {
+    let mut plain = ByteSink::new(rt.alloc(), 400, 400, Vec::new(rt.alloc()))?;
+    let mut nested = ByteSink::new(rt.alloc(), 400, 400, Vec::new(rt.alloc()))?;
+    let statuses = (
+        load::<PlainCluster, ByteSink>(rt.alloc(), 7, 2000, &mut plain),
+        load::<ClusterQueue, ByteSink>(rt.alloc(), 7, 2000, &mut nested),
+    );
+    assert_eq!(rt; statuses, (ReplayStatus::Done, ReplayStatus::Done));
+    assert!(rt; plain.bytes().starts_with(b"load 7 steps 2000\n"));
+    assert_eq!(rt; nested.bytes(), plain.bytes());
     Ok(())
 }
