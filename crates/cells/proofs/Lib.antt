@@ -1,0 +1,8 @@
+mod Books
+mod Entering
+mod Keeping
+mod Numbers
+mod Runs
+mod Selecting
+mod Shares
+mod Tried

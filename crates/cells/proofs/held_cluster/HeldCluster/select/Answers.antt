@@ -1,0 +1,97 @@
+use Rattle.std.proofs.Common.{◌≡◌, ◌+◌, ◌-◌, ℕ, Option, length, max, sym, ap, ◌∙◌, subst, arith}
+use Rattle.std.specs.Prelude.{IfSome}
+use Rattle.sched_base.specs.declared.Act.TheVariants as acts
+use Rattle.sched_base.specs.declared.Entry.{Entry}
+use Rattle.sched_base.specs.declared.Facts.{Facts}
+use Rattle.flat_policy.specs.Policy.Clusters.{ClusterView, HasNumbers, IsCluster, SameRoom, moment_at}
+use Rattle.cells.specs.Courses.{Fits, OnCourse}
+use Rattle.cells.specs.Held.{HeldParts, Keeps, after_selecting, answer_told, left_of, select_entry, selecting_at, stepped, unmarked}
+use Rattle.cells.specs.Packs.{amounts_but}
+use Rattle.cells.proofs.Keeping.{kept_numbers, same_parts}
+use Rattle.cells.proofs.Selecting.{selecting_answer, selecting_one, selecting_place, selects_keeps, some_weaker}
+use Rattle.cells.proofs.held_cluster.HeldCluster.select.Given as given
+use Rattle.cells.proofs.held_cluster.HeldCluster.select.Goals as goal
+
+pub taken-thread-requires-clause-numbers : goal.taken-thread-requires-clause-numbers
+taken-thread-requires-clause-numbers g c =
+    subst (λ q. HasNumbers (g.K.Cluster.view q).flat) (sym c.deref_mut.ensures.value)
+    (kept_numbers g.N.RunName.setup g.N.RunName.programs g.N.RunName.desks g.row.C
+    (record { cluster = g.K.Cluster.view c.self.inside.queue.value; journal = c.self.inside.journal; slots = c.self.inside.slots; lines = c.self.inside.lines; others = c.self.inside.others })
+    c.self.invariant (subst (λ q. IsCluster (g.K.Cluster.view q)) c.deref.ensures c.keeps.ensures) (omega (arith, c.len.ensures.limit)))
+
+pub released-value-requires-clause-fits : goal.released-value-requires-clause-fits
+released-value-requires-clause-fits g c =
+    let P : Facts → Type 0 = OnCourse g.N.RunName.setup g.N.RunName.programs in
+    subst (λ (o : Option Facts). IfSome o (Fits g.N.RunName.setup g.N.RunName.programs)) (sym (c.taken-thread.ensures.picked ∙ ap (λ q. (selecting_at (g.K.Cluster.view q) c.args.now).thread) c.deref_mut.ensures.value))
+    (some_weaker P (Fits g.N.RunName.setup g.N.RunName.programs) (selecting_at (g.K.Cluster.view c.self.inside.queue.value) c.args.now).thread (λ t on. on.fits)
+    (selecting_one P (g.K.Cluster.view c.self.inside.queue.value) c.args.now c.self.invariant.course))
+
+module _ (g : given.Over) (c : goal.After-released-value g) where
+  -- the held cluster before, and after
+  abbrev was : HeldParts
+  was = record { cluster = g.K.Cluster.view c.self.inside.queue.value; journal = c.self.inside.journal; slots = c.self.inside.slots; lines = c.self.inside.lines; others = c.self.inside.others }
+
+  abbrev is : HeldParts
+  is = record { cluster = g.K.Cluster.view c.taken-thread.new.queue; journal = c.push.new.self; slots = c.released-value.new.slots; lines = c.burn.new.self; others = c.released-value.new.others }
+
+  abbrev made : Entry
+  made = record { step = record { moment = c.max-moment.result; actor = c.args.actor; act = acts.Select }; answer = c.answer_of.result; thread = c.facts_in.result }
+
+  picked : c.taken-thread.result ≡ (selecting_at was.cluster c.args.now).thread
+  picked = c.taken-thread.ensures.picked ∙ ap (λ q. (selecting_at (g.K.Cluster.view q) c.args.now).thread) c.deref_mut.ensures.value
+
+  view_is : g.K.Cluster.view c.taken-thread.new.queue ≡ after_selecting was.cluster c.args.now
+  view_is = c.taken-thread.ensures.view ∙ ap (λ q. after_selecting (g.K.Cluster.view q) c.args.now) c.deref_mut.ensures.value
+
+  room_is : SameRoom was.cluster (g.K.Cluster.view c.taken-thread.new.queue)
+  room_is = subst (λ q. SameRoom (g.K.Cluster.view q) (g.K.Cluster.view c.taken-thread.new.queue)) c.deref_mut.ensures.value c.taken-thread.ensures.room
+
+  spare_is : (g.K.Cluster.view c.taken-thread.new.queue).spare ≡ was.cluster.spare + left_of c.taken-thread.result
+  spare_is = c.taken-thread.ensures.spare ∙ ap (λ q. (g.K.Cluster.view q).spare + left_of c.taken-thread.result) c.deref_mut.ensures.value
+
+  made_is : made ≡ select_entry c.args.actor was.cluster c.args.now
+  made_is =
+      let m : c.max-moment.result ≡ moment_at was.cluster c.args.now = c.max-moment.ensures ∙ ap (max c.args.now) (c.last.ensures ∙ ap (λ q. (g.K.Cluster.view q).flat.last) c.deref-2.ensures) in
+      let thread : c.facts_in.result ≡ (selecting_at was.cluster c.args.now).thread = c.facts_in.ensures ∙ picked in
+      let answer : c.answer_of.result ≡ (selecting_at was.cluster c.args.now).answer =
+      c.answer_of.ensures ∙ (λ i. answer_told ((c.is_on-on.ensures ∙ ap (λ q. (g.K.Cluster.view q).flat.on) c.deref-3.ensures) i) (picked i)) ∙ selecting_answer was.cluster c.args.now in
+      λ i. record { step = record { moment = m i; actor = c.args.actor; act = acts.Select }; answer = answer i; thread = thread i }
+
+  -- as many threads fewer as left
+  fewer : was.slots.parked - left_of c.taken-thread.result ≡ length (g.K.Cluster.view c.taken-thread.new.queue).flat.entries
+  fewer = omega (arith, c.self.invariant.parked, room_is, spare_is)
+
+  -- the fields are those after the selection
+  fields : is ≡ stepped (unmarked made) (after_selecting was.cluster c.args.now) was
+  fields =
+      let k = c.self.invariant in
+      let view : g.K.Cluster.view c.taken-thread.new.queue ≡ after_selecting was.cluster c.args.now = view_is in
+      let count : was.slots.parked - left_of c.taken-thread.result ≡ length (after_selecting was.cluster c.args.now).flat.entries = fewer ∙ ap (λ (v : ClusterView). length v.flat.entries) view in
+      same_parts is (stepped (unmarked made) (after_selecting was.cluster c.args.now) was)
+      view
+      c.push.ensures
+      (c.released-value.ensures.slots ∙ ap (λ (m : ℕ). record was.slots { parked = m }) count)
+      (c.burn.ensures.book ∙ ap (λ (m : ℕ). record was.lines { minted = was.lines.minted - m }) c.requires.line.1)
+      (c.released-value.ensures.others ∙ (λ i. amounts_but (sym ((selecting_place was.cluster c.args.now).1 ∙ k.number_is) i) 0 (count i)))
+
+  kept : Keeps g.N.RunName.setup g.N.RunName.programs g.N.RunName.desks g.row.C is
+  kept =
+      subst (Keeps g.N.RunName.setup g.N.RunName.programs g.N.RunName.desks g.row.C)
+      (sym (fields ∙ ap (λ (e : Entry). stepped (unmarked e) (after_selecting was.cluster c.args.now) was) made_is))
+      (selects_keeps g.N.RunName.setup g.N.RunName.programs g.N.RunName.desks g.row.C was c.self.invariant c.args.now c.args.actor
+      (subst (λ q. IsCluster (g.K.Cluster.view q)) c.deref.ensures c.keeps.ensures) c.requires.actor c.requires.home c.requires.moment
+      (omega (arith, room_is, ap (λ (v : ClusterView). v.spare) view_is, ap (λ (v : ClusterView). length v.flat.entries) view_is)))
+
+pub invariant_of-self : goal.invariant_of-self
+invariant_of-self g c = kept g c
+
+pub returns-clause-held : goal.returns-clause-held
+returns-clause-held g c = fields g c ∙ ap (λ (h : HeldParts). stepped (unmarked (made g c)) (after_selecting h.cluster c.args.now) h) c.self.view_is
+
+pub returns-clause-entry : goal.returns-clause-entry
+returns-clause-entry g c = made_is g c ∙ ap (λ (h : HeldParts). select_entry c.args.actor h.cluster c.args.now) c.self.view_is
+
+pub returns-clause-course : goal.returns-clause-course
+returns-clause-course g c =
+    subst (λ (o : Option Facts). IfSome o (OnCourse g.N.RunName.setup g.N.RunName.programs)) (sym (c.released-value.ensures.value ∙ (c.taken-thread.ensures.picked ∙ ap (λ q. (selecting_at (g.K.Cluster.view q) c.args.now).thread) c.deref_mut.ensures.value)))
+    (selecting_one (OnCourse g.N.RunName.setup g.N.RunName.programs) (g.K.Cluster.view c.self.inside.queue.value) c.args.now c.self.invariant.course)

@@ -1,0 +1,4 @@
+pub mod Courses
+pub mod Desks
+pub mod Held
+pub mod Packs

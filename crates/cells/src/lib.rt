@@ -1,0 +1,32 @@
+//! What a lock protects keeps its history: a cluster's queue lies behind a lock with the journal of what happened there, and
+//! its type keeps that the journal is a legal run which leads to that queue.
+//!
+//! A value behind a lock is known by its type alone. So a type, `N: RunName`, names the run: its setup, its programs and its
+//! desks. Rights pay for room: a thread's slot right is parked where the thread is queued, and a line right ends with the
+//! line that it pays, so that no step takes memory and none is refused.
+//!
+//! A thread enters, and another is selected (a caller in the tests):
+//!
+//! ```
+//! let done = held.enter(&desks, actor, rider, false, now, line); // the ticket, and the entry that the journal has now
+//! let Done { entry, value } = held.select(&desks, actor, now, second); // the rider, if one was picked
+//! ```
+#![tactic(auto)]
+
+mod desk_set;
+mod done;
+mod floor;
+mod held_cluster;
+mod pack;
+mod rider;
+mod run_name;
+
+pub use desk_set::DeskSet;
+pub use done::Done;
+pub use floor::Floor;
+pub use held_cluster::HeldCluster;
+pub use rider::{Rider, Slots};
+pub use run_name::RunName;
+
+#[cfg(test)]
+mod tests;

@@ -1,0 +1,185 @@
+//! Slot rights of all places, carried together.
+ghost use Rattle.std.specs.Prelude.{◌≡◌, ◌+◌, ◌<◌, ◌≤◌, ℕ};
+ghost use Rattle.cells.specs.Desks.{slot_desk};
+ghost use Rattle.cells.specs.Packs.{AreOf, AtLeastBut, amounts_but, beside, joined, one_each};
+ghost use Rattle.cells.specs.Desks.{StandsAt};
+
+use crate::desk_set::DeskSet;
+use crate::run_name::RunName;
+use rights::Share;
+use std::marker::{Model, PhantomData};
+
+/// A share of the slot rights of each cluster and of the yard, of the desks of one run. Contracts see how many each
+/// share has.
+#[derive(Drop)]
+pub(crate) struct Pack<N: RunName> {
+    at0: Share,
+    at1: Share,
+    at2: Share,
+    at3: Share,
+    at4: Share,
+    at5: Share,
+    at6: Share,
+    at7: Share,
+    yard: Share,
+    run: PhantomData<N>,
+}
+
+impl<N: RunName> Model for Pack<N> {
+    ghost use Rattle.cells.specs.Packs.{Amounts, AreOf};
+
+    ghost Value = { Amounts };
+
+    ghost view = { λ p. record {
+      at0 = p.at0.amount;
+      at1 = p.at1.amount;
+      at2 = p.at2.amount;
+      at3 = p.at3.amount;
+      at4 = p.at4.amount;
+      at5 = p.at5.amount;
+      at6 = p.at6.amount;
+      at7 = p.at7.amount;
+      yard = p.yard.amount;
+    } };
+
+    ghost invariant = { λ p. AreOf N.desks p.at0.desk p.at1.desk p.at2.desk p.at3.desk p.at4.desk p.at5.desk p.at6.desk p.at7.desk p.yard.desk };
+}
+
+impl<N: RunName> Pack<N> {
+    /// Puts shares together: those of the clusters in order, and that of the yard.
+    pub(crate) fn of(
+        at0: Share,
+        at1: Share,
+        at2: Share,
+        at3: Share,
+        at4: Share,
+        at5: Share,
+        at6: Share,
+        at7: Share,
+        yard: Share,
+    ) -> Pack<N>
+        requires { AreOf N.desks at0.desk at1.desk at2.desk at3.desk at4.desk at5.desk at6.desk at7.desk yard.desk }
+        ensures { result ≡ record {
+          at0 = at0.amount;
+          at1 = at1.amount;
+          at2 = at2.amount;
+          at3 = at3.amount;
+          at4 = at4.amount;
+          at5 = at5.amount;
+          at6 = at6.amount;
+          at7 = at7.amount;
+          yard = yard.amount;
+        } }
+    {
+        Pack {
+            at0,
+            at1,
+            at2,
+            at3,
+            at4,
+            at5,
+            at6,
+            at7,
+            yard,
+            run: PhantomData,
+        }
+    }
+
+    /// Takes in the rights of another.
+    pub(crate) fn join(&mut self, desks: &DeskSet, other: Pack<N>)
+        requires own { desks.now ≡ N.desks }
+        ensures { self.new ≡ joined self.old other }
+    {
+        desks.join(0, &mut self.at0, other.at0);
+        desks.join(2, &mut self.at1, other.at1);
+        desks.join(4, &mut self.at2, other.at2);
+        desks.join(6, &mut self.at3, other.at3);
+        desks.join(8, &mut self.at4, other.at4);
+        desks.join(10, &mut self.at5, other.at5);
+        desks.join(12, &mut self.at6, other.at6);
+        desks.join(14, &mut self.at7, other.at7);
+        desks.join(16, &mut self.yard, other.yard);
+    }
+
+    /// Takes in a right of the yard.
+    pub(crate) fn join_yard(&mut self, desks: &DeskSet, yard: Share)
+        requires own { desks.now ≡ N.desks }
+        requires yard { StandsAt N.desks 16 yard.desk }
+        ensures { self.new ≡ record self.old { yard = self.old.yard + yard.amount } }
+    {
+        desks.join(16, &mut self.yard, yard);
+    }
+
+    /// Takes the one right of a cluster out.
+    pub(crate) fn take(&mut self, desks: &DeskSet, c: usize) -> Share
+        requires own { desks.now ≡ N.desks }
+        requires there { c < 8 }
+        requires whole { self.old ≡ one_each }
+        ensures left { self.new ≡ amounts_but c 0 1 }
+        ensures desk { StandsAt N.desks (slot_desk c) result.desk }
+        ensures one { result.amount ≡ 1 }
+    {
+        match c {
+            0 => desks.split(0, &mut self.at0, 1),
+            1 => desks.split(2, &mut self.at1, 1),
+            2 => desks.split(4, &mut self.at2, 1),
+            3 => desks.split(6, &mut self.at3, 1),
+            4 => desks.split(8, &mut self.at4, 1),
+            5 => desks.split(10, &mut self.at5, 1),
+            6 => desks.split(12, &mut self.at6, 1),
+            _ => desks.split(14, &mut self.at7, 1),
+        }
+    }
+
+    /// Gives one right of each place but a cluster, to which one of that cluster's is added.
+    pub(crate) fn give(&mut self, desks: &DeskSet, c: usize, own: Share) -> Pack<N>
+        requires own { desks.now ≡ N.desks }
+        requires there { c < 8 }
+        requires others { AtLeastBut c self.old }
+        requires right { StandsAt N.desks (slot_desk c) own.desk × (own.amount ≡ 1) }
+        ensures left { (n : ℕ) → self.old ≡ amounts_but c 0 (n + 1) → self.new ≡ amounts_but c 0 n }
+        ensures given { result ≡ one_each }
+    {
+        let mut given = Pack {
+            at0: desks.split(0, &mut self.at0, one_but(c, 0)),
+            at1: desks.split(2, &mut self.at1, one_but(c, 1)),
+            at2: desks.split(4, &mut self.at2, one_but(c, 2)),
+            at3: desks.split(6, &mut self.at3, one_but(c, 3)),
+            at4: desks.split(8, &mut self.at4, one_but(c, 4)),
+            at5: desks.split(10, &mut self.at5, one_but(c, 5)),
+            at6: desks.split(12, &mut self.at6, one_but(c, 6)),
+            at7: desks.split(14, &mut self.at7, one_but(c, 7)),
+            yard: desks.split(16, &mut self.yard, 1),
+            run: PhantomData,
+        };
+        given.put(desks, c, own);
+        given
+    }
+
+    /// Adds the right of a cluster.
+    pub(crate) fn put(&mut self, desks: &DeskSet, c: usize, own: Share)
+        requires own { desks.now ≡ N.desks }
+        requires there { c < 8 }
+        requires others { self.old ≡ amounts_but c 0 1 }
+        requires right { StandsAt N.desks (slot_desk c) own.desk × (own.amount ≡ 1) }
+        ensures { self.new ≡ one_each }
+    {
+        match c {
+            0 => desks.join(0, &mut self.at0, own),
+            1 => desks.join(2, &mut self.at1, own),
+            2 => desks.join(4, &mut self.at2, own),
+            3 => desks.join(6, &mut self.at3, own),
+            4 => desks.join(8, &mut self.at4, own),
+            5 => desks.join(10, &mut self.at5, own),
+            6 => desks.join(12, &mut self.at6, own),
+            _ => desks.join(14, &mut self.at7, own),
+        }
+    }
+}
+
+// One right, but none at one place.
+fn one_but(c: usize, k: usize) -> u64
+    ensures { result ≡ beside c k 0 1 }
+{
+    if k == c { 0 } else { 1 }
+}
