@@ -5,12 +5,15 @@
 //! desks. Rights pay for room: a thread's slot right is parked where the thread is queued, and a line right ends with the
 //! line that it pays, so that no step takes memory and none is refused.
 //!
-//! A thread enters, and another is selected (a caller in the tests):
+//! A thread enters behind a lock; later the value is taken out of its lock, and a thread is selected (lines of the tests):
 //!
 //! ```
-//! let done = held.enter(&desks, actor, rider, false, now, line); // the ticket, and the entry that the journal has now
-//! let Done { entry, value } = held.select(&desks, actor, now, second); // the rider, if one was picked
+//! floor.enter(rt, &NoGate, 0, Rider::of(thread, pack), 5, line)
+//! let Done { entry, value } = held.select(desks, 0, 9, line);
 //! ```
+//!
+//! So far there is one cluster, and no call hands a held value to another crate. All moments are whole microseconds. `DeskSet::new`,
+//! `HeldCluster::reserve_slot` and `HeldCluster::reserve_lines` take memory; no step does.
 #![tactic(auto)]
 
 mod desk_set;
