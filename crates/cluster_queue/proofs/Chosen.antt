@@ -112,12 +112,20 @@ module _ (arena : Arena Item) (heaps : Heaps) (count : ℕ) (s : Flat) (formed :
             | inr h ↦ absurd (false≢true (sym (none.1 (ap (λ (d : Bucket). has_entries s (lane d false)) l.bucket ∙ h))))
           ]
 
-  -- the same of a bound lane, by its first slot
-  pub bound_none : TopsAreOfUnits → (bound_at heaps b).count ≡ 0 → None ≡ top_of s (lane b true)
-  bound_none tops none =
+  -- a lane without units that have entries has none, nor has one whose bound queue is empty
+  pub lane_empty : (at : Lane) → LaneFollows arena at count b s → (o : Option ℕ)
+      → ((t : Flat) → Follows arena at t → WellFormed (groups at) t → IsNone o ↔ (has_entries t (lane at.bucket false) ≡ false)) → IsNone o → has_entries s (lane b false) ≡ false
+  lane_empty at l o tells none =
+      ap (λ (d : Bucket). has_entries s (lane d false)) (sym l.bucket) ∙ (tells s l.follows (subst (λ (n : ℕ). WellFormed n s) (sym l.groups) formed)).0 none
+
+  pub bound_empty : (bound_at heaps b).count ≡ 0 → has_entries s (lane b true) ≡ false
+  bound_empty none =
       let is = nil_from_length (lane_entries s (lane b true)) (sym (f.bound b).count ∙ none) in
-      let empty : has_entries s (lane b true) ≡ false = sym (any_passes (in_lane (lane b true)) s.entries) ∙ ap (λ (es : List Queued). not (length es == 0)) is in
-      sym ((tops count s formed).empty (lane b true) empty)
+      sym (any_passes (in_lane (lane b true)) s.entries) ∙ ap (λ (es : List Queued). not (length es == 0)) is
+
+  -- the greatest unit priority of a bound lane, by its first slot
+  pub bound_none : TopsAreOfUnits → (bound_at heaps b).count ≡ 0 → None ≡ top_of s (lane b true)
+  bound_none tops none = sym ((tops count s formed).empty (lane b true) (bound_empty none))
 
   pub bound_member : (slot : ℕ) (first : IsFirst arena (bound_at heaps b) slot) → Contains (lane_entries s (lane b true)) (entry_of first.item)
   bound_member slot first = (f.bound b).entries.there slot first.item first.held first.stored

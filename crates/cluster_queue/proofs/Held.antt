@@ -1,7 +1,9 @@
 -- The entry of the item in a slot that was found.
-use Rattle.std.proofs.Common.{◌≡◌, ℕ, true, Option, Some, None, is_some, refl, ap}
-use Rattle.std.specs.Prelude.{option_map}
+use Rattle.std.proofs.Common.{◌≡◌, ℕ, true, false, Option, Some, None, is_some, refl, sym, ap}
+use Rattle.std.specs.Prelude.{IfNone, IsNone, option_map}
 use Rattle.std.proofs.lemmas.Bool.{false≢true}
+use Rattle.sched_base.specs.declared.Bucket.{Bucket}
+use Rattle.sched_base.specs.declared.Bucket.TheVariants.{Bg, Df, Fg, Ini, Ui, Ut}
 use Rattle.flat_policy.specs.Policy.Queue.{Queued}
 use Rattle.link_arena.specs.Arena.{Arena, IsLive, value_at}
 use Rattle.thread_queue.specs.Item.{entry_of}
@@ -34,3 +36,25 @@ pub held_in : (q : Queue) (slot : ℕ) → IsLive q.arena slot → (e : Queued) 
 held_in q slot live =
     let s = some_from (value_at q.arena slot) live in
     (entry_of s.0, ap (option_map entry_of) s.1)
+
+-- what holds where there is no slot
+pub if_none : {X : Type 0} (P : Type 0) (o : Option X) → (IsNone o → P) → IfNone o P
+if_none P None f = f refl
+if_none P (Some x) f = tt
+
+pub none_too : {X : Type 0} (P Q : Type 0) (o : Option X) → (P → Q) → IfNone o P → IfNone o Q
+none_too P Q None f p = f p
+none_too P Q (Some x) f p = tt
+
+pub from_none : {X : Type 0} (P : Type 0) (o : Option X) → is_some o ≡ false → IfNone o P → P
+from_none P None none p = p
+from_none P (Some x) none p = absurd (false≢true (sym none))
+
+-- what holds of the six buckets holds of each
+pub each_bucket : (P : Bucket → Type 0) → P Ui → P Fg → P Ini → P Df → P Ut → P Bg → (b : Bucket) → P b
+each_bucket P ui fg ini df ut bg Ui = ui
+each_bucket P ui fg ini df ut bg Fg = fg
+each_bucket P ui fg ini df ut bg Ini = ini
+each_bucket P ui fg ini df ut bg Df = df
+each_bucket P ui fg ini df ut bg Ut = ut
+each_bucket P ui fg ini df ut bg Bg = bg

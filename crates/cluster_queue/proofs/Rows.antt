@@ -34,15 +34,7 @@ entries_below arena next e apart c =
     let m = member_of_map (λ (r : Row). r.entry) (rows_below arena next) e c in
     omega (arith, (rows_back arena apart.once next m.0 m.1.0).1, ap (λ (x : Queued). x.arrival) m.1.1)
 
--- where no item is, there is no entry, and the other way round
-rows_none : (arena : Arena Item) → ((slot : ℕ) → value_at arena slot ≡ None) → (next : ℕ) → rows_below arena next ≡ []
-rows_none arena none zero = refl
-rows_none arena none (suc next) =
-    ap₂ (λ (xs ys : List Row). xs ++ ys) (rows_none arena none next) (row_none arena next (λ slot item stored is. none-some item (sym (none slot) ∙ stored)))
-
-pub entries_none : (arena : Arena Item) (next : ℕ) → ((slot : ℕ) → value_at arena slot ≡ None) → entries_in arena next ≡ []
-entries_none arena next none = ap (map (λ (r : Row). r.entry)) (rows_none arena none next)
-
+-- where there is no entry, no slot holds an item
 pub none_stored : (arena : Arena Item) (next : ℕ) → ArrivalsApart arena next → length (entries_in arena next) ≡ 0 → (slot : ℕ) → value_at arena slot ≡ None
 none_stored arena next apart none slot =
     elim (none_or_some (value_at arena slot)) [

@@ -1,4 +1,4 @@
--- How the heaps are priced anew, bucket by bucket. But for the first definitions and the last it serves private calls only.
+-- How the heaps are priced anew, bucket by bucket. It serves private calls only.
 use Rattle.std.specs.Prelude.{Bool, Contains, None, Some, [], count_by, false, if◌then◌else◌, length, map, nat_lt, not, true, vec_capacity, ℕ, ◌&&◌, ◌+◌, ◌==◌, ◌≡◌, ◌≤◌}
 use Rattle.sched_base.specs.Bucket.{index}
 use Rattle.sched_base.specs.Limits.{most_threads}

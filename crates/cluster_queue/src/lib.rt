@@ -12,8 +12,8 @@
 //! ```
 //!
 //! Entries lie in slots of one arena. A unit is a pairing heap of its entries, an unbound lane a heap of its units, and the
-//! unbound threads that prefer a cluster stand in a heap for that cluster, too. No call but `refresh` and `take_any` goes over
-//! entries, groups or clusters. All moments and times are whole microseconds.
+//! unbound threads that prefer a cluster stand in a heap for that cluster, too. No call but `new`, `refresh` and
+//! `end` goes over entries, groups or clusters. All moments and times are whole microseconds.
 #![tactic(auto)]
 
 mod cluster;

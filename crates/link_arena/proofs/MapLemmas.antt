@@ -7,7 +7,7 @@ use Rattle.slab.proofs.SlabLemmas.{Updates-with_value}
 use Rattle.link_arena.specs.declared.arena.Cell.{Cell}
 use Rattle.link_arena.specs.declared.arena.Links.{Links}
 use Rattle.link_arena.specs.Arena.{Arena, Node, unlinked, value_of, links_of, links_in, node_at, value_at, links_at, IsLive, SameMap, SameElsewhere, Inserts, Removes, Relinks, Revalues, node_with_value, with_value as arena_with_value}
-use Rattle.link_arena.specs.Sound.{node_of, nodes_of, cell_with_links}
+use Rattle.link_arena.specs.Sound.{node_of, nodes_of, cell_links, cell_with_links}
 use Rattle.link_arena.proofs.NodeLemmas.{node_of-nothing, get_or-nodes_of, nodes_of-set, from_some, within_from_some}
 
 -- a cell without links
@@ -127,6 +127,15 @@ module _ {V : Type 0} where
       ∙ ap (links_in k) (node_at-seen s values n key
       ∙ ap (λ c. node_of c (get_or values key None)) found
       ∙ ap (λ value. node_of (Some cell) value) here.stored)
+
+  links_of-cell : (k : ℕ) (v : V) (cell : Cell) → k < 2 → links_of k record { value = v; first = cell.first; second = cell.second } ≡ cell_links k cell
+  links_of-cell zero v cell small = refl
+  links_of-cell (suc zero) v cell small = refl
+  links_of-cell (suc (suc k)) v cell small = absurd (omega arith)
+
+  -- the links at a live slot are those of its cell
+  pub cell_links_is : (a : Arena V) (s : Slab Cell) (values : List (Option V)) (n k key : ℕ) (cell : Cell) → seen s values n ≡ a → (here : Found s values key) → get s key ≡ Some cell → k < 2 → links_at a k key ≡ cell_links k cell
+  cell_links_is a s values n k key cell view here found small = links_is a s values n k key cell view here found ∙ links_of-cell k here.value cell small
 
   -- a slot is added, which is free
   pub SameMap-added : (s t : Slab Cell) (old new : List (Option V)) (m n key : ℕ) (cell : Cell) → Linked s old → get s key ≡ None → Updates s t key (Some cell) → ((k : ℕ) → get_or new k None ≡ get_or old k None) → SameMap (seen s old m) (seen t new n)

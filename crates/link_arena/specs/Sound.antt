@@ -5,6 +5,11 @@ use Rattle.link_arena.specs.Arena.{Node}
 use Rattle.link_arena.specs.declared.arena.Cell.{Cell}
 use Rattle.link_arena.specs.declared.arena.Links.{Links}
 
+-- the links of a cell in set 0, or else in set 1
+abbrev pub cell_links : ℕ → Cell → Links
+cell_links zero cell = cell.first
+cell_links (suc _) cell = cell.second
+
 -- the cell with other links in set 0, or else in set 1
 abbrev pub cell_with_links : ℕ → Links → Cell → Cell
 cell_with_links zero links cell = record cell { first = links }

@@ -66,7 +66,7 @@ impl Links {
 }
 
 impl Cell {
-    ghost use Rattle.link_arena.specs.Sound.{cell_with_links};
+    ghost use Rattle.link_arena.specs.Sound.{cell_links, cell_with_links};
 
     const EMPTY: Cell = Cell {
         first: Links::NONE,
@@ -80,6 +80,38 @@ impl Cell {
             self.first = l;
         } else {
             self.second = l;
+        }
+    }
+
+    fn set_child(&mut self, k: usize, child: Option<u32>)
+        ensures { self.new ≡ cell_with_links k (record (cell_links k self.old) { child = child }) self.old }
+    {
+        if k == 0 {
+            self.first.child = child;
+        } else {
+            self.second.child = child;
+        }
+    }
+
+    fn set_beside(&mut self, k: usize, next: Option<u32>, prev: Option<u32>)
+        ensures { self.new ≡ cell_with_links k (record (cell_links k self.old) { next = next; prev = prev }) self.old }
+    {
+        if k == 0 {
+            self.first.next = next;
+            self.first.prev = prev;
+        } else {
+            self.second.next = next;
+            self.second.prev = prev;
+        }
+    }
+
+    fn set_prev(&mut self, k: usize, prev: Option<u32>)
+        ensures { self.new ≡ cell_with_links k (record (cell_links k self.old) { prev = prev }) self.old }
+    {
+        if k == 0 {
+            self.first.prev = prev;
+        } else {
+            self.second.prev = prev;
         }
     }
 }
@@ -227,6 +259,42 @@ impl<V> Arena<V> {
     {
         let cell = &mut self.cells[slot as usize];
         cell.set_links(k, l);
+    }
+
+    /// Writes the child of set `k`, which is 0 or 1, at a slot. All other links stay, and so do values.
+    pub fn set_child(&mut self, k: usize, slot: u32, child: Option<u32>)
+        requires live { IsLive self.old slot }
+        requires set { k < 2 }
+        ensures relinks { Relinks self.old self.new k slot (record (links_at self.old k slot) { child = child }) }
+        ensures spare { self.new.spare ≡ self.old.spare }
+        ensures len { live_count self.new ≡ live_count self.old }
+    {
+        let cell = &mut self.cells[slot as usize];
+        cell.set_child(k, child);
+    }
+
+    /// Writes the next slot and the one before of set `k`, which is 0 or 1, at a slot. All other links stay, and so do values.
+    pub fn set_beside(&mut self, k: usize, slot: u32, next: Option<u32>, prev: Option<u32>)
+        requires live { IsLive self.old slot }
+        requires set { k < 2 }
+        ensures relinks { Relinks self.old self.new k slot (record (links_at self.old k slot) { next = next; prev = prev }) }
+        ensures spare { self.new.spare ≡ self.old.spare }
+        ensures len { live_count self.new ≡ live_count self.old }
+    {
+        let cell = &mut self.cells[slot as usize];
+        cell.set_beside(k, next, prev);
+    }
+
+    /// Writes the slot before of set `k`, which is 0 or 1, at a slot. All other links stay, and so do values.
+    pub fn set_prev(&mut self, k: usize, slot: u32, prev: Option<u32>)
+        requires live { IsLive self.old slot }
+        requires set { k < 2 }
+        ensures relinks { Relinks self.old self.new k slot (record (links_at self.old k slot) { prev = prev }) }
+        ensures spare { self.new.spare ≡ self.old.spare }
+        ensures len { live_count self.new ≡ live_count self.old }
+    {
+        let cell = &mut self.cells[slot as usize];
+        cell.set_prev(k, prev);
     }
 
     /// The least slot from `from` on that holds a value, if there is one.

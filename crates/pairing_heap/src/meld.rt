@@ -147,36 +147,12 @@ fn adopt<V: Keyed<K>, const K: usize>(arena: &mut Arena<V>, parent: u32, child: 
     ensures links { Adopts (links_at arena.old K) (links_at arena.new K) parent child }
     ensures rest { KeepsRest K arena.old arena.new }
 {
-    let above = arena.links(K, parent);
-    let below = arena.links(K, child);
-    if let Some(sibling) = above.child {
-        let beside = arena.links(K, sibling);
-        arena.set_links(
-            K,
-            sibling,
-            Links {
-                prev: Some(child),
-                ..beside
-            },
-        );
+    let first = arena.links(K, parent).child;
+    if let Some(sibling) = first {
+        arena.set_prev(K, sibling, Some(child));
     }
-    arena.set_links(
-        K,
-        child,
-        Links {
-            child: below.child,
-            next: above.child,
-            prev: Some(parent),
-        },
-    );
-    arena.set_links(
-        K,
-        parent,
-        Links {
-            child: Some(child),
-            ..above
-        },
-    );
+    arena.set_beside(K, child, first, Some(parent));
+    arena.set_child(K, parent, Some(child));
 }
 
 /// Makes one heap of siblings: they are melded in pairs from left to right, and the pairs then into one.
@@ -301,16 +277,7 @@ fn set_next<V: Keyed<K>, const K: usize>(arena: &mut Arena<V>, slot: u32, next: 
     ensures relinks { Relinks arena.old arena.new K slot record { child = (links_at arena.old K slot).child; next = next; prev = None } }
     ensures spare { arena.new.spare ≡ arena.old.spare }
 {
-    let child = arena.links(K, slot).child;
-    arena.set_links(
-        K,
-        slot,
-        Links {
-            child,
-            next,
-            prev: None,
-        },
-    );
+    arena.set_beside(K, slot, next, None);
 }
 
 /// Joins the slot before another, and the one after it, past it.
@@ -320,36 +287,29 @@ fn unhook<V: Keyed<K>, const K: usize>(arena: &mut Arena<V>, slot: u32, pred: u3
     ensures rest { KeepsRest K arena.old arena.new }
 {
     let after = arena.links(K, slot).next;
-    let above = arena.links(K, pred);
-    let joined = past_slot(above, slot, after);
-    arena.set_links(K, pred, joined);
+    skip_slot::<V, K>(arena, slot, pred, after);
     if let Some(after) = after {
-        let beside = arena.links(K, after);
-        arena.set_links(
-            K,
-            after,
-            Links {
-                prev: Some(pred),
-                ..beside
-            },
-        );
+        arena.set_prev(K, after, Some(pred));
     }
 }
 
-/// The links of what comes before a slot, with what comes after it in its place.
-fn past_slot(above: Links, slot: u32, after: Option<u32>) -> Links
-    ensures child { above.child ≡ Some slot → result ≡ record { child = after; next = above.next; prev = above.prev } }
-    ensures next { above.child ≢ Some slot → result ≡ record { child = above.child; next = after; prev = above.prev } }
+/// Writes what comes after a slot in its place, at what comes before it.
+fn skip_slot<V: Keyed<K>, const K: usize>(
+    arena: &mut Arena<V>,
+    slot: u32,
+    pred: u32,
+    after: Option<u32>,
+)
+    requires set { K < 2 }
+    requires live { IsLive arena.old pred }
+    ensures child { (links_at arena.old K pred).child ≡ Some slot → Relinks arena.old arena.new K pred (record (links_at arena.old K pred) { child = after }) }
+    ensures next { (links_at arena.old K pred).child ≢ Some slot → Relinks arena.old arena.new K pred (record (links_at arena.old K pred) { next = after }) }
+    ensures spare { arena.new.spare ≡ arena.old.spare }
 {
+    let above = arena.links(K, pred);
     if above.child == Some(slot) {
-        Links {
-            child: after,
-            ..above
-        }
+        arena.set_child(K, pred, after);
     } else {
-        Links {
-            next: after,
-            ..above
-        }
+        arena.set_beside(K, pred, after, above.prev);
     }
 }

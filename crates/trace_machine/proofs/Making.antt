@@ -7,8 +7,8 @@ use Rattle.std.proofs.lemmas.List.Elements.{All-from_get_or, All-take}
 use Rattle.flat_policy.specs.Policy.Clusters.{ClusterView}
 use Rattle.flat_policy.specs.Policy.Machine.{Hand, empty_hand, empty_machine, empty_yard}
 use Rattle.flat_policy.specs.Policy.Queue.{Flat, empty_flat}
-use Rattle.flat_policy.specs.Policy.Setup.{SetupParts, actor_count, cluster_count, group_count}
-use Rattle.trace_machine.specs.Making.{AreNew, CanEnd, IsNew}
+use Rattle.flat_policy.specs.Policy.Setup.{SetupParts, actor_count, cluster_count, group_count, home_of}
+use Rattle.trace_machine.specs.Making.{AreFirstHomes, AreNew, CanEnd, IsNew}
 use Rattle.trace_machine.specs.Parts.{AllServe, PartsView, Serves, no_cluster, state_of}
 
 -- fewer clusters can end, too
@@ -62,3 +62,21 @@ pub starts_empty : (setup : SetupParts) (vs : List ClusterView) (hs : List Hand)
 starts_empty setup vs hs are empty =
     ap (λ (fs : List Flat). record { flats = fs; hands = hs; yard = empty_yard }) are.empty
     ∙ ap (λ (ys : List Hand). record { flats = replicate (cluster_count setup) (empty_flat (group_count setup)); hands = ys; yard = empty_yard }) empty
+
+-- the home of one actor more
+pub homes_more : (setup : SetupParts) (n : ℕ) (homes : List ℕ) (home : ℕ) → AreFirstHomes setup n homes → home ≡ home_of setup n → home < cluster_count setup → AreFirstHomes setup (n + 1) (homes ++ home ∷ [])
+homes_more setup n homes home are is small = record {
+  count = omega (arith, length_push homes home, are.count);
+  each = λ a lt. elim (cases_eq a n) [
+    | inl at ↦
+        ap (λ k. slice_index_or (homes ++ home ∷ []) k 0) (at ∙ sym are.count)
+        ∙ (get_or-append_seam homes home [] 0 ∙ (is ∙ ap (home_of setup) (sym at)))
+    | inr differs ↦
+        let below : a < n = omega arith in
+        get_or_append_left homes (home ∷ []) 0 a (omega (arith, are.count, below)) ∙ are.each a below
+  ];
+  below = λ a lt. elim (cases_eq a n) [
+    | inl at ↦ subst (λ k. k < cluster_count setup) (is ∙ ap (home_of setup) (sym at)) small
+    | inr differs ↦ are.below a (omega arith)
+  ];
+}

@@ -10,7 +10,7 @@ use Rattle.flat_policy.specs.Policy.Clusters.{NameStands}
 use Rattle.flat_policy.specs.Policy.Machine.{GRun, MachineState, Yard, live_count as live_of, reply, state_after}
 use Rattle.flat_policy.specs.Policy.Setup.{actor_count, cluster_count}
 use Rattle.trace_machine.specs.Parts.{AllServe, PartsView, cluster_at, hand_of, state_of}
-use Rattle.trace_machine.specs.Yards.{YardView, sleeper_in, standing_of}
+use Rattle.trace_machine.specs.Yards.{NamesView, YardView, sleeper_in, standing_of}
 use Rattle.trace_machine.specs.declared.Reply.{Reply}
 use Rattle.trace_machine.specs.declared.names.Standing.{Standing}
 use Rattle.trace_machine.specs.declared.names.Standing.TheVariants as standings
@@ -21,7 +21,7 @@ use Rattle.std.specs.Prelude.{Contains}
 pub record MachineView : Type 0 where
   pub parts : PartsView
   pub yard : YardView
-  pub names : List (ℕ × Standing)
+  pub names : NamesView
   pub steps : ℕ
 
 -- the yard in code has the blocked threads of the policy's, each in a slot under which its name stands, room for every thread that may live,

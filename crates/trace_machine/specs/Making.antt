@@ -2,7 +2,7 @@
 use Rattle.std.specs.Prelude.{List, length, map, replicate, slice_index_or, ℕ, ◌*◌, ◌<◌, ◌≡◌, ◌≤◌, ◌^◌}
 use Rattle.flat_policy.specs.Policy.Clusters.{ClusterView}
 use Rattle.flat_policy.specs.Policy.Queue.{empty_flat}
-use Rattle.flat_policy.specs.Policy.Setup.{SetupParts, group_count}
+use Rattle.flat_policy.specs.Policy.Setup.{SetupParts, actor_count, cluster_count, group_count, home_of}
 use Rattle.trace_machine.specs.Parts.{Serves, no_cluster}
 
 -- a new cluster, which serves before any step
@@ -20,3 +20,13 @@ pub record AreNew (setup : SetupParts) (n : ℕ) (vs : List ClusterView) : Type 
 pub record CanEnd (v : ClusterView) : Type 0 where
   pub arrival : v.flat.next_arrival ≤ 2 ^ 50
   pub turn : v.flat.next_turn ≤ 384 * 2 ^ 50
+
+-- a list of the homes of the actors below n, each of which is a cluster's number
+pub record AreFirstHomes (setup : SetupParts) (n : ℕ) (homes : List ℕ) : Type 0 where
+  pub count : length homes ≡ n
+  pub each : (a : ℕ) → a < n → slice_index_or homes a 0 ≡ home_of setup a
+  pub below : (a : ℕ) → a < n → home_of setup a < cluster_count setup
+
+-- a list of the homes of all actors
+abbrev pub AreHomes : SetupParts → List ℕ → Type 0
+AreHomes setup homes = AreFirstHomes setup (actor_count setup) homes

@@ -1,5 +1,5 @@
 -- The yard of a machine in code: blocked threads in slots, the number of live threads, and where each name stands.
-use Rattle.std.specs.Prelude.{Bool, List, None, Option, Some, false, ℕ, ◌==◌}
+use Rattle.std.specs.Prelude.{Bool, List, None, Option, Some, false, slice_index_or, ℕ, ◌==◌}
 use Rattle.std.specs.BTreeMap.{is_at}
 use Rattle.std.specs.Map.{lookup}
 use Rattle.std.specs.Ordering.{nat_cmp}
@@ -21,9 +21,19 @@ pub record YardView : Type 0 where
 abbrev pub sleeper_in : Resting → Sleeper
 sleeper_in w = record { facts = w.thread; since = w.since }
 
--- where a name stands, by the entries of a table of names
-abbrev pub standing_of : List (ℕ × Standing) → ℕ → Option Standing
-standing_of entries name = lookup (is_at (nat_cmp name)) entries
+-- a table of names: a list by number, and the entries of the names that the list doesn't have
+pub record NamesView : Type 0 where
+  pub near : List (Option Standing)
+  pub far : List (ℕ × Standing)
+
+-- the first standing where there is one, otherwise the second
+abbrev pub or_second : Option Standing → Option Standing → Option Standing
+or_second None second = second
+or_second (Some s) second = Some s
+
+-- where a name stands, by a table of names
+abbrev pub standing_of : NamesView → ℕ → Option Standing
+standing_of names name = or_second (slice_index_or names.near name None) (lookup (is_at (nat_cmp name)) names.far)
 
 -- the place that a standing names, and nowhere for a name that was never made
 abbrev pub place_in : Option Standing → Place

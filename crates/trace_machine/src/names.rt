@@ -1,6 +1,6 @@
 //! Where each name stands.
 
-ghost use Rattle.std.specs.Prelude.{◌≡◌, ◌==◌, None, Some, IsSome, OnOk, OnErr, if◌then◌else◌, ℕ};
+ghost use Rattle.std.specs.Prelude.{◌≡◌, ◌==◌, None, Some, IsSome, OnOk, OnErr, ◌≤◌, if◌then◌else◌, length, ℕ};
 ghost use Rattle.trace_machine.specs.Yards.{standing_of};
 
 use sched_base::Ticket;
@@ -18,19 +18,22 @@ pub enum Standing {
     Ended,
 }
 
-/// Where each name that was ever made stands. A name is found in logarithmic time.
+/// Where each name that was ever made stands. Names that are made one after the other are found at
+/// once, and others in logarithmic time.
 #[derive(Drop)]
 pub struct Names {
-    table: BTreeMap<u32, Standing>,
+    // By number. At most every second place is empty.
+    near: Vec<Option<Standing>>,
+    // The names that `near` doesn't have.
+    far: BTreeMap<u32, Standing>,
 }
 
 impl Model for Names {
-    ghost use Rattle.std.specs.Prelude.{List, ℕ};
-    ghost use Rattle.trace_machine.specs.declared.names.Standing.{Standing};
+    ghost use Rattle.trace_machine.specs.Yards.{NamesView};
 
-    ghost Value = { List (ℕ × Standing) };
+    ghost Value = { NamesView };
 
-    ghost view = { λ n. n.table.entries };
+    ghost view = { λ n. record { near = n.near.items; far = n.far.entries } };
 }
 
 impl Names {
@@ -39,7 +42,8 @@ impl Names {
         ensures { (name : ℕ) → standing_of result name ≡ None }
     {
         Names {
-            table: BTreeMap::new(alloc),
+            near: Vec::new(alloc),
+            far: BTreeMap::new(alloc),
         }
     }
 
@@ -47,7 +51,14 @@ impl Names {
     pub fn get(&self, name: u32) -> Option<Standing>
         ensures { result ≡ standing_of self.now name }
     {
-        self.table.get(&name).copied()
+        let at = name as usize;
+        if at < self.near.len() {
+            let standing = self.near[at];
+            if standing.is_some() {
+                return standing;
+            }
+        }
+        self.far.get(&name).copied()
     }
 
     /// A name that was made stands elsewhere. The other names stay.
@@ -55,7 +66,10 @@ impl Names {
         requires { IsSome (standing_of self.old name) }
         ensures { (other : ℕ) → standing_of self.new other ≡ (if other == name then Some standing else standing_of self.old other) }
     {
-        if let Some(place) = self.table.get_mut(&name) {
+        let at = name as usize;
+        if at < self.near.len() && self.near[at].is_some() {
+            self.near[at] = Some(standing);
+        } else if let Some(place) = self.far.get_mut(&name) {
             *place = standing;
         }
     }
@@ -65,7 +79,30 @@ impl Names {
         ensures added { OnOk result ((other : ℕ) → standing_of self.new other ≡ (if other == name then Some standing else standing_of self.old other)) }
         ensures err { OnErr result (self.new ≡ self.old) }
     {
-        match self.table.insert(name, standing) {
+        let at = name as usize;
+        let len = self.near.len();
+        if at < len {
+            self.near[at] = Some(standing);
+            return Ok(());
+        }
+        if at - len > 1 {
+            return self.add_far(name, standing);
+        }
+        self.near.reserve(2)?;
+        if at != len {
+            self.near.push_reserved(None);
+        }
+        self.near.push_reserved(Some(standing));
+        Ok(())
+    }
+
+    /// A name stands somewhere that no place of `near` is for.
+    fn add_far(&mut self, name: u32, standing: Standing) -> Result<(), AllocError>
+        requires { length self.old.near ≤ name }
+        ensures added { OnOk result ((other : ℕ) → standing_of self.new other ≡ (if other == name then Some standing else standing_of self.old other)) }
+        ensures err { OnErr result (self.new ≡ self.old) }
+    {
+        match self.far.insert(name, standing) {
             Ok(_) => Ok(()),
             Err(_) => Err(AllocError),
         }

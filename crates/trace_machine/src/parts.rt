@@ -26,6 +26,8 @@ use std::marker::Model;
 pub struct Parts<K: Cluster> {
     setup: Setup,
     edges: Edges,
+    // The cluster of each actor, which the setup would go through its clusters for.
+    homes: Vec<u8>,
     clusters: Vec<K>,
     hands: Vec<HeldHand>,
 }
@@ -44,6 +46,7 @@ impl<K: Cluster> Model for Parts<K> {
 
     ghost use Rattle.std.specs.Prelude.{◌≡◌};
     ghost use Rattle.edge_matrix.specs.EdgeTables.{edges_of};
+    ghost use Rattle.trace_machine.specs.Making.{AreHomes};
 
-    ghost invariant = { λ p. p.edges ≡ edges_of p.setup };
+    ghost invariant = { λ p. (p.edges ≡ edges_of p.setup) × AreHomes p.setup p.homes.items };
 }

@@ -1,6 +1,6 @@
 //! What the heaps have, and which of their slots go first.
 
-ghost use Rattle.std.specs.Prelude.{◌≡◌, ◌<◌, ◌≤◌, ◌&&◌, ℕ, IfSome, count_by, is_some, length, nat_le};
+ghost use Rattle.std.specs.Prelude.{◌≡◌, ◌<◌, ◌≤◌, ◌&&◌, ℕ, IfNone, IfSome, count_by, false, is_some, length, nat_le};
 ghost use Rattle.bound_buckets.specs.Tops.{top_of};
 ghost use Rattle.flat_policy.specs.Policy.Offer.{is_unbound, offered_foreign};
 ghost use Rattle.flat_policy.specs.Policy.Precedence.{precedes_in_lane};
@@ -83,6 +83,7 @@ impl Heaps {
         requires { CanRead arena.now self.now }
         ensures first { (can : CanRead arena.now self.now) → entry_in arena.now result ≡ unpreceded (precedes_in_lane can.s) (lane_entries can.s lane) }
         ensures live { IfSome result (λ slot. IsLive arena.now slot) }
+        ensures none { IfNone result ((can : CanRead arena.now self.now) → has_entries can.s lane ≡ false) }
     {
         choice_laws();
         let at = lane.bucket.index() as usize;

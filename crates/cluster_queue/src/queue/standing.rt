@@ -1,12 +1,16 @@
 //! Whether an entry stands in a slot, and moments.
 
-ghost use Rattle.std.specs.Prelude.{◌≡◌, Some, is_some};
+ghost use Rattle.std.specs.Prelude.{◌≡◌, Bool, IfNone, IfSome, Some, false, is_some};
+ghost use Rattle.sched_base.specs.declared.buckets.Bucket.{Bucket};
 ghost use Rattle.flat_policy.specs.Policy.Clusters.{standing_among};
 ghost use Rattle.flat_policy.specs.Policy.ClusterSteps.{touched};
-ghost use Rattle.flat_policy.specs.Policy.Queue.{Queued};
+ghost use Rattle.flat_policy.specs.Policy.Queue.{Queued, has_entries, lane};
+ghost use Rattle.link_arena.specs.Arena.{IsLive};
 ghost use Rattle.cluster_queue.specs.Queues.{HoldsEntry, IsQueue, IsSomeSlot, StaysWith, flat_of, slots_of};
 
 use super::Queue;
+use bucket_tables::{Lane, each_bucket};
+use sched_base::Bucket;
 
 impl Queue {
     /// Whether the entry of an arrival stands in a slot.
@@ -23,7 +27,44 @@ impl Queue {
         requires { IsQueue self.now }
         ensures { IsSomeSlot self.now result }
     {
-        self.arena.next_live(0)
+        self.first_slot()
+    }
+
+    /// The slot of the first entry of the first lane that has entries; `None` where no lane has any.
+    fn first_slot(&self) -> Option<u32>
+        requires { IsQueue self.now }
+        ensures live { IfSome result (λ slot. IsLive self.now.arena slot) }
+        ensures none { IfNone result ((b : Bucket) (bound : Bool) → has_entries (flat_of self.now) (lane b bound) ≡ false) }
+    {
+        each_bucket!(bucket => {
+            let slot = self.first_in(bucket);
+            if slot.is_some() {
+                return slot;
+            }
+        });
+        None
+    }
+
+    /// The slot of the first entry of a lane of a bucket; `None` where neither has entries.
+    fn first_in(&self, bucket: Bucket) -> Option<u32>
+        requires { IsQueue self.now }
+        ensures live { IfSome result (λ slot. IsLive self.now.arena slot) }
+        ensures none { IfNone result ((bound : Bool) → has_entries (flat_of self.now) (lane bucket bound) ≡ false) }
+    {
+        let unbound = self.first_of(bucket, false);
+        if unbound.is_some() {
+            return unbound;
+        }
+        self.first_of(bucket, true)
+    }
+
+    /// The slot of the first entry of a lane; `None` where it has no entries.
+    fn first_of(&self, bucket: Bucket, bound: bool) -> Option<u32>
+        requires { IsQueue self.now }
+        ensures live { IfSome result (λ slot. IsLive self.now.arena slot) }
+        ensures none { IfNone result (has_entries (flat_of self.now) (lane bucket bound) ≡ false) }
+    {
+        self.heaps.first_of(&self.arena, Lane { bucket, bound })
     }
 
     /// Sets the last moment, and nothing else.

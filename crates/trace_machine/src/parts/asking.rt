@@ -29,7 +29,7 @@ impl<K: Cluster> Parts<K> {
         ensures home { result ≡ home_of self.now.setup actor }
         ensures below { result < cluster_count self.now.setup }
     {
-        self.setup.home(actor)
+        self.homes[actor as usize]
     }
 
     /// Whether the hand holds a thread.

@@ -59,7 +59,7 @@ impl<K: Cluster> Parts<K> {
         ensures does { Does self.old self.new actor now (acts.Ran us) (answers.Work result) }
         ensures clusters { self.new.clusters ≡ self.old.clusters }
     {
-        let rate = self.setup.rate(self.setup.home(actor));
+        let rate = self.setup.rate(self.home(actor));
         let hand = &mut self.hands[actor as usize];
         hand.last = now;
         match &mut hand.thread {

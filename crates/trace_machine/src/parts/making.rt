@@ -4,7 +4,7 @@ ghost use Rattle.std.specs.Prelude.{◌≡◌, ◌<◌, ◌≤◌, ◌^◌, All,
 ghost use Rattle.flat_policy.specs.Policy.BuiltSetups.{IsSetup};
 ghost use Rattle.flat_policy.specs.Policy.Machine.{empty_hand, empty_machine, empty_yard};
 ghost use Rattle.flat_policy.specs.Policy.Setup.{actor_count, cluster_count};
-ghost use Rattle.trace_machine.specs.Making.{AreNew, CanEnd, IsNew};
+ghost use Rattle.trace_machine.specs.Making.{AreHomes, AreNew, CanEnd, IsNew};
 ghost use Rattle.trace_machine.specs.Parts.{AllServe, cluster_at, hand_in, state_of};
 
 use super::Parts;
@@ -105,6 +105,18 @@ fn made_hands(alloc: Global, setup: &Setup) -> Result<Vec<HeldHand>, AllocError>
     Ok(hands)
 }
 
+/// The cluster of each actor.
+#[tactic(auto, using(crate::proofs::Making::homes_more))]
+fn made_homes(alloc: Global, setup: &Setup) -> Result<Vec<u8>, AllocError>
+    ensures { IfOk result (λ made. AreHomes setup.now made.items) }
+{
+    let mut homes = Vec::with_capacity(alloc, setup.actors() as usize)?;
+    for actor in 0..setup.actors() {
+        homes.push_reserved(setup.home(actor));
+    }
+    Ok(homes)
+}
+
 impl<K: Cluster> Parts<K> {
     /// Empty queues with spare room for every thread that may live, and empty hands.
     pub fn new(alloc: Global, setup: Setup) -> Result<Parts<K>, AllocError>
@@ -114,6 +126,7 @@ impl<K: Cluster> Parts<K> {
         ensures serve { IfOk result (λ made. AllServe 0 made) }
     {
         setup.keeps_ranges();
+        let homes = made_homes(alloc, &setup)?;
         let hands = made_hands(alloc, &setup)?;
         match made_clusters(alloc, &setup) {
             Ok(clusters) => {
@@ -121,6 +134,7 @@ impl<K: Cluster> Parts<K> {
                 Ok(Parts {
                     setup,
                     edges,
+                    homes,
                     clusters,
                     hands,
                 })
@@ -140,6 +154,7 @@ impl<K: Cluster> Parts<K> {
         let Parts {
             setup: _,
             edges: _,
+            homes: _,
             clusters,
             hands,
         } = self;

@@ -1,6 +1,6 @@
--- The first live slot holds an entry.
-use Rattle.cluster_queue.proofs.QueueSlots.{some_live}
+-- The first slot holds an entry.
+use Rattle.cluster_queue.proofs.QueueSlots.{some_first}
 use Rattle.cluster_queue.proofs.queue.Queue.some_slot.Goals as goal
 
 pub returns : goal.returns
-returns c = some_live c.args.self.now c.next_live.result c.requires.nested.stored.arrivals c.next_live.ensures.live c.next_live.ensures.none
+returns c = some_first c.args.self.now c.first_slot.result c.requires.nested.stored.arrivals c.first_slot.ensures.live c.first_slot.ensures.none

@@ -26,5 +26,5 @@ returns g c t is =
     let hand_is = hand_read g.K.Cluster.view setup c.self.inside.clusters.items c.self.inside.hands.items p a hand c.self.view_is there c.index-hand.ensures in
     let setup_is = ap (λ (q : PartsView). q.setup) c.self.view_is in
     aims p a setup hand t c.in-Some.thread c.facts.result c.aim.result setup_is hand_is c.in-Some.is c.facts.ensures.facts is
-    (c.aim.ensures.among p.setup c.requires.ready.setup (c.self.invariant ∙ ap (λ (s : SetupParts). edges_of s) setup_is)
+    (c.aim.ensures.among p.setup c.requires.ready.setup (c.self.invariant.0 ∙ ap (λ (s : SetupParts). edges_of s) setup_is)
     (prefers_one p a setup hand c.in-Some.thread c.facts.result c.fitting_prefers_among.ensures c.requires.ready hand_is c.in-Some.is c.facts.ensures.facts))

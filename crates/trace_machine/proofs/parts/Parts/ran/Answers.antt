@@ -20,7 +20,7 @@ returns-clause-does g c =
     let hand_is = hand_read view setup xs hs p a hand c.self.view_is there c.index_mut-hand.ensures.value in
     runs p _ a c.args.now c.args.us c.rate-rate.result c.facts.result.work c.in-Some.thread c.charge.new.self
     (ap (λ (h : Hand). h.thread) hand_is ∙ c.in-Some.is)
-    (c.rate-rate.ensures.rate ∙ ap (λ k. rate_of setup k) c.home.ensures.home ∙ ap (λ (q : PartsView). rate_of q.setup (home_of q.setup a)) c.self.view_is)
+    (c.rate-rate.ensures.rate ∙ ap (λ k. rate_of setup k) c.home.ensures.home ∙ ap (λ (q : PartsView). rate_of q.setup (home_of p.setup a)) c.self.view_is)
     c.charge.ensures
     (ap (λ (f : Facts). f.work) c.facts.ensures.facts)
     (hand_ran view setup xs hs p a hand c.charge.new.self c.args.now c.self.view_is there c.index_mut-hand.ensures.value)
