@@ -11,9 +11,9 @@ ghost use Rattle.trace_replay.specs.UnderWay.{HasEnded, IsStopped, IsUnderWay};
 ghost use Rattle.trace_text.specs.Pages.{HasRoom};
 
 use crate::status::ReplayStatus;
-use crate::trace::Trace;
+use crate::trace::{Trace, place};
 use flat_policy::cluster::Cluster;
-use flat_policy::texts::LineFault;
+use flat_policy::texts::{Given, LineFault};
 use ports::{Failed, Fed, LineFeed, Sink, Source};
 use sched_base::limits::LINE_BYTES;
 
@@ -53,13 +53,14 @@ fn bad_line<C: Cluster>(trace: &Trace<C>, what: LineFault) -> ReplayStatus
     }
 }
 
-/// Takes the next line and answers it onto the page.
+/// Takes the next line and answers it onto the page. What it says is read into the place that is lent.
 ///
 /// An error is what ends the replay: `Done` at the end of the input, and else a fault.
 fn answer_next<C: Cluster, S: Source>(
     trace: &mut Trace<C>,
     feed: &mut LineFeed,
     source: &mut S,
+    given: &mut Given,
 ) -> Result<(), ReplayStatus>
     requires ready { CanAnswer trace.old }
     requires room { HasRoom trace.old.page }
@@ -77,7 +78,7 @@ fn answer_next<C: Cluster, S: Source>(
     ensures exact { IsTrue S.is_exact → IfErr result (λ status. ReadsExactly (S.faults source.old) (S.faults source.new) (S.is_failing source.new) status) }
 {
     match feed.next(source, LINE_LIMIT) {
-        Fed::Line => trace.answer_line(feed.line()),
+        Fed::Line => trace.answer_line(feed.line(), given),
         Fed::Long => Err(bad_line(trace, LineFault::Long)),
         Fed::Unfinished => Err(bad_line(trace, LineFault::Unfinished)),
         Fed::End => Err(ReplayStatus::Done),
@@ -136,11 +137,12 @@ pub(crate) fn answer_lines<C: Cluster, S: Source, K: Sink>(
     ensures read_exact { IsTrue S.is_exact → ReadsExactly (S.faults source.old) (S.faults source.new) (S.is_failing source.new) result }
     ensures write_exact { IsTrue K.is_exact → PutsOnce (K.faults sink.old) (K.faults sink.new) (K.is_failing sink.new) result }
 {
+    let mut given = place();
     loop {
         if let Err(Failed) = make_ready(trace, feed, sink) {
             return ReplayStatus::WriteFault;
         }
-        if let Err(status) = answer_next(trace, feed, source) {
+        if let Err(status) = answer_next(trace, feed, source, &mut given) {
             return put_last(trace, sink, status);
         }
     }

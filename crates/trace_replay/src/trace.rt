@@ -9,6 +9,7 @@ ghost use Rattle.flat_policy.specs.Texts.Streams.{contradicts, step_line};
 ghost use Rattle.ports.specs.Devices.{AppendsPart, HasCause, StopsAtFailure};
 ghost use Rattle.trace_machine.specs.Machines.{IsMachine, Means, StepsTo};
 ghost use Rattle.trace_replay.specs.Traces.{Answers, CanAnswer, CanEnd, IsBegun, Stays, StopsLine, StopsTake, Takes, moved, setup_of};
+ghost use Rattle.trace_text.specs.Acting.{unless_fault};
 ghost use Rattle.trace_text.specs.Pages.{HasRoom};
 ghost use Rattle.trace_text.specs.Writing.{AnswerFits, StepFits};
 
@@ -18,13 +19,13 @@ use flat_policy::laws::{runs_stay_sound, runs_stay_within};
 use flat_policy::setup::Setup;
 use flat_policy::texts::{Given, LineFault};
 use ports::{Failed, Sink, put_all};
-use sched_base::{Answer, Step};
+use sched_base::{Act, Answer, Step};
 use std::alloc::{AllocError, Global};
 use std::marker::Model;
 use trace_machine::laws::blocked_are_live;
 use trace_machine::{Machine, Reply};
 use trace_text::laws::{lines_are_exact, replies_have_texts};
-use trace_text::{Page, STEP_ROOM, read_step};
+use trace_text::{Page, STEP_ROOM, read_step_into};
 
 /// The number of the first line behind the setup line.
 const FIRST_LINE: u64 = 2;
@@ -43,6 +44,16 @@ impl<C: Cluster> Model for Trace<C> {
     ghost Value = { TraceView };
 
     ghost view = { λ t. record { machine = t.machine; page = t.page; line = t.line } };
+}
+
+/// A place for what a line says.
+pub(crate) fn place() -> Given {
+    let step = Step {
+        moment: 0,
+        actor: 0,
+        act: Act::Aim,
+    };
+    Given { step, answer: None }
 }
 
 /// Whether two answers are the same.
@@ -166,13 +177,13 @@ impl<C: Cluster> Trace<C> {
         result
     }
 
-    /// What a line says, where it is within the grammar and the setup fits it.
-    fn given(&self, line: &[u8]) -> Result<Given, LineFault>
-        ensures { result ≡ step_line (setup_of self.now) line.now }
+    /// Reads what a line says into a place, where it is within the grammar and the setup fits it.
+    fn read(&self, line: &[u8], given: &mut Given) -> Result<(), LineFault>
+        ensures { unless_fault result given.new ≡ step_line (setup_of self.now) line.now }
     {
-        let given = read_step(line)?;
+        read_step_into(line, given)?;
         if is_fitting(self.machine.setup(), &given.step) {
-            Ok(given)
+            Ok(())
         } else {
             Err(LineFault::Range)
         }
@@ -212,19 +223,18 @@ impl<C: Cluster> Trace<C> {
     }
 
     /// Answers a line: takes its step, and writes it with its effective moment and its answer onto
-    /// the page.
+    /// the page. What it says is read into the place that is lent, whatever stood there.
     ///
     /// Errors: `BadLine` where it is outside the grammar or the setup doesn't fit it, `Differs`
     /// where another answer is given, and `OutOfMemory`. Then nothing is written.
-    #[inline(never)]
-    pub(crate) fn answer_line(&mut self, line: &[u8]) -> Result<(), ReplayStatus>
+    pub(crate) fn answer_line(&mut self, line: &[u8], given: &mut Given) -> Result<(), ReplayStatus>
         requires ready { CanAnswer self.old }
         requires room { HasRoom self.old.page }
         ensures ok { OnOk result (Answers self.old self.new line.now) }
         ensures err { IfErr result (λ status. StopsLine self.old line.now status × Stays self.old self.new) }
     {
-        match self.given(line) {
-            Ok(given) => self.take(line, &given),
+        match self.read(line, given) {
+            Ok(()) => self.take(line, given),
             Err(what) => Err(ReplayStatus::BadLine {
                 line: self.line,
                 what,

@@ -1,5 +1,6 @@
 pub mod Again
 pub mod AnswersBack
+pub mod Begun
 pub mod Digits
 pub mod Fitting
 pub mod FittingAnswers
@@ -18,6 +19,7 @@ pub mod PiecesAgain
 pub mod ProgramsAgain
 pub mod ProgramsBack
 pub mod ReadBack
+pub mod PutWords
 pub mod Readings
 pub mod Rejoined
 pub mod RunLines

@@ -1,3 +1,4 @@
+pub mod Acting
 pub mod InLines
 pub mod Laws
 pub mod Naming

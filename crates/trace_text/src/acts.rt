@@ -1,9 +1,8 @@
-//! Acts and steps, read.
+//! Acts, read.
 
 ghost use Rattle.std.specs.Prelude.{◌≡◌};
 ghost use Rattle.flat_policy.specs.Texts.Steps.{
   act_at,
-  step_at,
   make_at,
   enter_at,
   offer_at,
@@ -18,12 +17,10 @@ ghost use Rattle.flat_policy.specs.Texts.Pieces.{pieces};
 ghost use Rattle.trace_text.specs.Naming.{NoFrequentAct};
 ghost use Rattle.trace_text.specs.Reading.{Gives, left};
 
-use crate::fields::{
-    actor_at, base_at, bound_at, bucket_at, cluster_at, end_at, group_at, moment_at, wide_at,
-};
+use crate::fields::{base_at, bound_at, bucket_at, cluster_at, end_at, group_at, wide_at};
 use crate::pieces::{Pieces, behind_word};
 use flat_policy::texts::LineFault;
-use sched_base::{Act, Step};
+use sched_base::Act;
 
 #[inline(always)]
 fn make_at(pieces: Pieces<'_>) -> Result<(Act, Pieces<'_>), LineFault>
@@ -140,8 +137,8 @@ fn rare_act_at(text: &[u8]) -> Result<(Act, Pieces<'_>), LineFault>
 }
 
 /// An act, from its word on. The words that come most often are looked for first.
-#[inline(always)]
-fn worded_act_at(text: &[u8]) -> Result<(Act, Pieces<'_>), LineFault>
+#[inline(never)]
+pub fn act_at(text: &[u8]) -> Result<(Act, Pieces<'_>), LineFault>
     ensures { Gives (λ x. (x.0, left x.1)) result (act_at (pieces text.now)) }
 {
     if let Some(rest) = behind_word(text, b"select") {
@@ -169,26 +166,4 @@ fn worded_act_at(text: &[u8]) -> Result<(Act, Pieces<'_>), LineFault>
         return offer_at(rest);
     }
     rare_act_at(text)
-}
-
-/// An act, from its word on.
-#[inline(always)]
-fn act_at(pieces: Pieces<'_>) -> Result<(Act, Pieces<'_>), LineFault>
-    ensures { Gives (λ x. (x.0, left x.1)) result (act_at (left pieces.entry)) }
-{
-    match pieces.rest {
-        Some(text) => worded_act_at(text),
-        None => Err(LineFault::Word),
-    }
-}
-
-/// A step, from its moment on.
-pub fn step_at(pieces: Pieces<'_>) -> Result<(Step, Pieces<'_>), LineFault>
-    ensures { Gives (λ x. (x.0, left x.1)) result (step_at (left pieces.entry)) }
-{
-    let (moment, rest) = moment_at(pieces)?;
-    let (actor, rest) = actor_at(rest)?;
-    let (act, rest) = act_at(rest)?;
-    let step = Step { moment, actor, act };
-    Ok((step, rest))
 }

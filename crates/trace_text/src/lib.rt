@@ -10,6 +10,7 @@
 //! ```
 #![tactic(auto)]
 
+mod acting;
 mod acts;
 mod answers;
 mod fields;
@@ -26,7 +27,7 @@ mod writing;
 
 pub use flat_policy::texts::{Given, LineFault, Power, ProgramLine, RunLine};
 pub use line_out::LineOut;
-pub use lines::read_step;
+pub use lines::{read_step, read_step_into};
 pub use numerals::read_numeral;
 pub use page::{Page, STEP_ROOM};
 pub use pieces::piece;

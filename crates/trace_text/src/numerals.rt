@@ -10,19 +10,52 @@ use flat_policy::texts::LineFault;
 /// Below this a number may have one more digit in 64 bits.
 const ROOM_FOR_A_DIGIT: u64 = 1_000_000_000_000_000_000;
 
-/// The number that the digits at the front write, and how many they are: all of them, or those up to
-/// the first that takes the number to 10^18 or above. So it is below 10^19.
+/// The bytes of the first and the last digit, as wide as the numbers that they go into: so no digit is widened by itself.
+const ZERO: u64 = b'0' as u64;
+
+const NINE: u64 = b'9' as u64;
+
+/// How many bytes are looked at by a loop of a fixed length, which compilers write out.
+const FIRST_BYTES: usize = 8;
+
+/// The number that the digits at the front of so many bytes write, and how many they are.
 #[inline(always)]
 #[tactic(auto, using(crate::proofs::Scanning::digits_more, crate::proofs::Scanning::value_more))]
-pub fn leading_number(text: &[u8]) -> (u64, usize)
+fn first_digits(text: &[u8]) -> (u64, usize)
+    requires { FIRST_BYTES ≤ length text.now }
+    ensures within { result.1 ≤ FIRST_BYTES }
+    ensures digits { list_all is_digit (take result.1 text.now) ≡ true }
+    ensures value { result.0 ≡ numeral_value (take result.1 text.now) }
+    ensures below { result.0 < 10 ^ 19 }
+    ensures all { result.1 < FIRST_BYTES → is_digit (get_or text.now result.1 0) ≡ true → 10 ^ 18 ≤ result.0 }
+{
+    let mut number: u64 = 0;
+    for count in 0..FIRST_BYTES {
+        let b = u64::from(text[count]);
+        if b < ZERO || b > NINE || number >= ROOM_FOR_A_DIGIT {
+            return (number, count);
+        }
+        number = number * 10 + (b - ZERO);
+    }
+    (number, FIRST_BYTES)
+}
+
+/// The same of all bytes, where the first `known` of them are digits that write `first`.
+#[inline(always)]
+#[tactic(auto, using(crate::proofs::Scanning::digits_more, crate::proofs::Scanning::value_more))]
+fn digits_from(text: &[u8], first: u64, known: usize) -> (u64, usize)
+    requires within { known ≤ length text.now }
+    requires digits { list_all is_digit (take known text.now) ≡ true }
+    requires value { first ≡ numeral_value (take known text.now) }
+    requires below { first < 10 ^ 19 }
     ensures within { result.1 ≤ length text.now }
     ensures digits { list_all is_digit (take result.1 text.now) ≡ true }
     ensures value { result.0 ≡ numeral_value (take result.1 text.now) }
     ensures below { result.0 < 10 ^ 19 }
     ensures all { result.1 < length text.now → is_digit (get_or text.now result.1 0) ≡ true → 10 ^ 18 ≤ result.0 }
 {
-    let mut number: u64 = 0;
-    for count in 0..text.len() {
+    let mut number = first;
+    for count in known..text.len() {
         let b = text[count];
         if !b.is_ascii_digit() || number >= ROOM_FOR_A_DIGIT {
             return (number, count);
@@ -30,6 +63,26 @@ pub fn leading_number(text: &[u8]) -> (u64, usize)
         number = number * 10 + u64::from(b - b'0');
     }
     (number, text.len())
+}
+
+/// The number that the digits at the front write, and how many they are: all of them, or those up to
+/// the first that takes the number to 10^18 or above. So it is below 10^19.
+#[inline(always)]
+pub fn leading_number(text: &[u8]) -> (u64, usize)
+    ensures within { result.1 ≤ length text.now }
+    ensures digits { list_all is_digit (take result.1 text.now) ≡ true }
+    ensures value { result.0 ≡ numeral_value (take result.1 text.now) }
+    ensures below { result.0 < 10 ^ 19 }
+    ensures all { result.1 < length text.now → is_digit (get_or text.now result.1 0) ≡ true → 10 ^ 18 ≤ result.0 }
+{
+    if text.len() < FIRST_BYTES {
+        return digits_from(text, 0, 0);
+    }
+    let (number, count) = first_digits(text);
+    if count < FIRST_BYTES {
+        return (number, count);
+    }
+    digits_from(text, number, count)
 }
 
 /// Whether so many digits at the front are a numeral: one of them, or more that begin with none of 0.

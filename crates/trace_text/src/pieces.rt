@@ -35,7 +35,7 @@ fn space_in(text: &[u8]) -> Option<usize>
 }
 
 /// The first piece, and what is left behind the space after it.
-fn split(text: &[u8]) -> (&[u8], Pieces<'_>)
+pub fn split(text: &[u8]) -> (&[u8], Pieces<'_>)
     ensures { pieces text.now ≡ result.0.now ∷ left result.1 }
 {
     match space_in(text) {

@@ -17,6 +17,22 @@ pub fn put(room: &mut [u8], at: usize, bytes: &[u8]) -> usize
     end
 }
 
+/// Puts the bytes of a word that is known where the call is compiled. There its loop is written out, and no check is left
+/// of whether the bytes overlap the room.
+#[inline(always)]
+#[tactic(auto, using(crate::proofs::PutWords::byte_put))]
+pub fn put_word(room: &mut [u8], at: usize, word: &[u8]) -> usize
+    requires { at + length word.now ≤ length room.old }
+    ensures text { take result room.new ≡ take at room.old ++ word.now }
+    ensures end { result ≡ at + length word.now }
+    ensures long { length room.new ≡ length room.old }
+{
+    for i in 0..word.len() {
+        room[at + i] = word[i];
+    }
+    at + word.len()
+}
+
 /// How many digits a number of at most four has.
 #[inline(always)]
 #[tactic(auto, using(crate::proofs::Digits::length_one, crate::proofs::Digits::length_two, crate::proofs::Digits::length_three, crate::proofs::Digits::length_of_four))]

@@ -7,7 +7,7 @@ ghost use Rattle.flat_policy.specs.Texts.Answers.{answer_text, place_pieces};
 ghost use Rattle.trace_text.specs.Writing.{AnswerFits, IsStepText, StepFits, answer_part};
 
 use crate::line_out::LineOut;
-use crate::placing::{put, put_long, put_small, put_wide};
+use crate::placing::{put, put_long, put_small, put_wide, put_word};
 use sched_base::{Act, Answer, Bucket, Place, Step};
 
 /// Puts a word and a number of 8 bits behind it.
@@ -18,7 +18,7 @@ fn put_with_small(room: &mut [u8], at: usize, word: &[u8], number: u8) -> usize
     ensures most { result ≤ at + (length word.now + 3) }
     ensures long { length room.new ≡ length room.old }
 {
-    let end = put(room, at, word);
+    let end = put_word(room, at, word);
     put_small(room, end, number)
 }
 
@@ -30,7 +30,7 @@ fn put_with_wide(room: &mut [u8], at: usize, word: &[u8], number: u32) -> usize
     ensures most { result ≤ at + (length word.now + 10) }
     ensures long { length room.new ≡ length room.old }
 {
-    let end = put(room, at, word);
+    let end = put_word(room, at, word);
     put_wide(room, end, number)
 }
 
@@ -42,7 +42,7 @@ fn put_with_long(room: &mut [u8], at: usize, word: &[u8], number: u64) -> usize
     ensures most { result ≤ at + (length word.now + 20) }
     ensures long { length room.new ≡ length room.old }
 {
-    let end = put(room, at, word);
+    let end = put_word(room, at, word);
     put_long(room, end, number)
 }
 
@@ -75,7 +75,7 @@ fn put_bound(room: &mut [u8], at: usize, bound: Option<u8>) -> usize
     ensures long { length room.new ≡ length room.old }
 {
     match bound {
-        None => put(room, at, b"-"),
+        None => put_word(room, at, b"-"),
         Some(cluster) => put_small(room, at, cluster),
     }
 }
@@ -96,10 +96,10 @@ fn put_make(
 {
     let at = put_with_wide(room, at, b"make ", name);
     let at = put_with_small(room, at, b" ", group);
-    let at = put(room, at, b" ");
+    let at = put_word(room, at, b" ");
     let at = put(room, at, bucket_bytes(bucket));
     let at = put_with_small(room, at, b" ", base);
-    let at = put(room, at, b" ");
+    let at = put_word(room, at, b" ");
     put_bound(room, at, bound)
 }
 
@@ -111,7 +111,7 @@ fn put_enter(room: &mut [u8], at: usize, cluster: u8, head: bool) -> usize
     ensures long { length room.new ≡ length room.old }
 {
     let at = put_with_small(room, at, b"enter ", cluster);
-    let at = put(room, at, b" ");
+    let at = put_word(room, at, b" ");
     put(room, at, end_bytes(head))
 }
 
@@ -132,17 +132,17 @@ fn put_act(room: &mut [u8], at: usize, act: &Act) -> usize
             bound,
         } => put_make(room, at, name, group, bucket, base, bound),
         Act::Enter { cluster, head } => put_enter(room, at, cluster, head),
-        Act::Select => put(room, at, b"select"),
+        Act::Select => put_word(room, at, b"select"),
         Act::Offer { cluster } => put_with_small(room, at, b"offer ", cluster),
         Act::Pull { name } => put_with_wide(room, at, b"pull ", name),
         Act::Look { cluster } => put_with_small(room, at, b"look ", cluster),
-        Act::Aim => put(room, at, b"aim"),
+        Act::Aim => put_word(room, at, b"aim"),
         Act::Ran { us } => put_with_wide(room, at, b"ran ", us),
-        Act::Sleep => put(room, at, b"sleep"),
+        Act::Sleep => put_word(room, at, b"sleep"),
         Act::Wake { name } => put_with_wide(room, at, b"wake ", name),
-        Act::End => put(room, at, b"end"),
-        Act::Blocked => put(room, at, b"blocked"),
-        Act::Refresh => put(room, at, b"refresh"),
+        Act::End => put_word(room, at, b"end"),
+        Act::Blocked => put_word(room, at, b"blocked"),
+        Act::Refresh => put_word(room, at, b"refresh"),
         Act::Off { cluster } => put_with_small(room, at, b"off ", cluster),
         Act::On { cluster } => put_with_small(room, at, b"on ", cluster),
     }
@@ -158,9 +158,9 @@ fn put_place(room: &mut [u8], at: usize, place: Place) -> usize
     match place {
         Place::Queue(cluster) => put_with_small(room, at, b"q ", cluster),
         Place::Hand(actor) => put_with_small(room, at, b"hand ", actor),
-        Place::Blocked => put(room, at, b"blocked"),
-        Place::Ended => put(room, at, b"ended"),
-        Place::Nowhere => put(room, at, b"none"),
+        Place::Blocked => put_word(room, at, b"blocked"),
+        Place::Ended => put_word(room, at, b"ended"),
+        Place::Nowhere => put_word(room, at, b"none"),
     }
 }
 
@@ -171,7 +171,7 @@ fn put_not_blocked(room: &mut [u8], at: usize, place: Place) -> usize
     ensures most { result ≤ at + 22 }
     ensures long { length room.new ≡ length room.old }
 {
-    let at = put(room, at, b"no NotBlocked ");
+    let at = put_word(room, at, b"no NotBlocked ");
     put_place(room, at, place)
 }
 
@@ -182,7 +182,7 @@ fn put_not_queued(room: &mut [u8], at: usize, place: Place) -> usize
     ensures most { result ≤ at + 21 }
     ensures long { length room.new ≡ length room.old }
 {
-    let at = put(room, at, b"no NotQueued ");
+    let at = put_word(room, at, b"no NotQueued ");
     put_place(room, at, place)
 }
 
@@ -195,24 +195,24 @@ fn put_answer(room: &mut [u8], at: usize, answer: &Answer) -> usize
     ensures long { length room.new ≡ length room.old }
 {
     match *answer {
-        Answer::Yes => put(room, at, b"ok"),
+        Answer::Yes => put_word(room, at, b"ok"),
         Answer::Pri(priority) => put_with_small(room, at, b"pri ", priority),
         Answer::Got(name) => put_with_wide(room, at, b"got ", name),
-        Answer::Empty => put(room, at, b"-"),
-        Answer::Off => put(room, at, b"off"),
+        Answer::Empty => put_word(room, at, b"-"),
+        Answer::Off => put_word(room, at, b"off"),
         Answer::Load(load) => put_with_wide(room, at, b"load ", load),
         Answer::To(cluster) => put_with_small(room, at, b"to ", cluster),
         Answer::New(count) => put_with_wide(room, at, b"new ", count),
         Answer::Left(count) => put_with_wide(room, at, b"left ", count),
         Answer::Work(work) => put_with_long(room, at, b"work ", work),
-        Answer::HandFull => put(room, at, b"no HandFull"),
-        Answer::HandEmpty => put(room, at, b"no HandEmpty"),
-        Answer::NameUsed => put(room, at, b"no NameUsed"),
-        Answer::NoRoom => put(room, at, b"no NoRoom"),
+        Answer::HandFull => put_word(room, at, b"no HandFull"),
+        Answer::HandEmpty => put_word(room, at, b"no HandEmpty"),
+        Answer::NameUsed => put_word(room, at, b"no NameUsed"),
+        Answer::NoRoom => put_word(room, at, b"no NoRoom"),
         Answer::NotBlocked(place) => put_not_blocked(room, at, place),
         Answer::NotQueued(place) => put_not_queued(room, at, place),
-        Answer::OwnCluster => put(room, at, b"no OwnCluster"),
-        Answer::NotAllowed => put(room, at, b"no NotAllowed"),
+        Answer::OwnCluster => put_word(room, at, b"no OwnCluster"),
+        Answer::NotAllowed => put_word(room, at, b"no NotAllowed"),
         Answer::LookFirst(cluster) => put_with_small(room, at, b"no LookFirst ", cluster),
     }
 }
@@ -228,7 +228,7 @@ pub(crate) fn put_step(room: &mut [u8], at: usize, s: &Step) -> usize
 {
     let at = put_long(room, at, s.moment);
     let at = put_with_small(room, at, b" ", s.actor);
-    let at = put(room, at, b" ");
+    let at = put_word(room, at, b" ");
     put_act(room, at, &s.act)
 }
 
@@ -240,9 +240,9 @@ pub(crate) fn put_answer_part(room: &mut [u8], at: usize, a: &Answer) -> usize
     ensures most { result ≤ at + 29 }
     ensures long { length room.new ≡ length room.old }
 {
-    let at = put(room, at, b" = ");
+    let at = put_word(room, at, b" = ");
     let at = put_answer(room, at, a);
-    put(room, at, b"\n")
+    put_word(room, at, b"\n")
 }
 
 /// Replaces the contents by the text of a step whose numbers are in the ranges of lines.

@@ -37,3 +37,9 @@ returns-in-Err-clause-machine g c =
     may_end c.loop-trace.trace c.make_ready.new.trace
     (may_answer c.requires.way.0 c.requires.way.1 c.loop-trace.trace c.loop-trace.feed (g.S.Source.left c.loop-trace.source) (g.K.Sink.taken c.loop-trace.sink) way)
     c.make_ready.ensures.keeps
+
+pub returns-in-Err-answer_next-clause-ended : goal.returns-in-Err-answer_next-clause-ended
+returns-in-Err-answer_next-clause-ended g c start begun way =
+    c.put_last.ensures.ended start begun (g.S.Source.left c.answer_next.new.source)
+    (c.in-Err-answer_next.ensures.err start begun (g.K.Sink.taken c.make_ready.new.sink)
+    (c.in_default.ensures.ok start begun (g.S.Source.left c.loop-trace.source) c.loop-trace.feed (c.loop-trace.invariant.way start begun way)))

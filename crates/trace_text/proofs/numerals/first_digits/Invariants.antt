@@ -1,7 +1,7 @@
 use Rattle.std.proofs.Common.{take, true, ◌<◌, ◌^◌, ◌≡◌}
 use Rattle.std.specs.List.{list_all}
 use Rattle.flat_policy.specs.Texts.Pieces.{is_digit, numeral_value}
-use Rattle.trace_text.proofs.numerals.leading_number.Given as goal
+use Rattle.trace_text.proofs.numerals.first_digits.Given as goal
 
 abbrev pub invariant-loop-count : goal.invariant-loop-count
 invariant-loop-count l =
