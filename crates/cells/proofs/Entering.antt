@@ -1,11 +1,9 @@
 -- Entering a held cluster: the step that its line makes, and what it keeps.
-use Rattle.std.proofs.Common.{◌≡◌, ℕ, ◌<◌, ◌≤◌, ◌==◌, nat_lt, ◌&&◌, Bool, true, List, length, Some, None, refl, sym, ap, ◌∙◌, subst, arith}
+use Rattle.std.proofs.Common.{◌≡◌, ℕ, ◌<◌, ◌≤◌, ◌==◌, nat_lt, ◌&&◌, Bool, true, List, length, None, refl, sym, ap, ◌∙◌, subst, arith}
 use Rattle.std.proofs.lemmas.Bool.{and_from, cond-true, eq-eqb, lt-ltb}
 use Rattle.sched_base.specs.Limits.{moment_limit, most_threads}
 use Rattle.sched_base.specs.declared.Act.TheVariants as acts
-use Rattle.sched_base.specs.declared.Answer.TheVariants as answers
 use Rattle.sched_base.specs.declared.Facts.{Facts}
-use Rattle.flat_policy.specs.declared.journal.Line.{Line}
 use Rattle.flat_policy.specs.Policy.Aim.{MayEnter, may_enter}
 use Rattle.flat_policy.specs.Policy.ClusterSteps.{Event, enter_event}
 use Rattle.flat_policy.specs.Policy.Moves.{new_entry, settled_thread}
@@ -19,35 +17,17 @@ use Rattle.flat_policy.proofs.After.{entered_entries}
 use Rattle.flat_policy.proofs.Parts.{each_push}
 use Rattle.flat_policy.proofs.Usage.{decay_within}
 use Rattle.cells.specs.Courses.{IsOf, OnCourse}
+use Rattle.cells.specs.Held.{entry_of, unmarked}
+use Rattle.cells.proofs.Stepping.{place_step}
 
--- the line of an entering
-abbrev pub entering_line : ℕ → ℕ → ℕ → Bool → Facts → ℕ → Line
-entering_line moment actor c head t pri = record {
-  entry = record { step = record { moment = moment; actor = actor; act = acts.Enter c head }; answer = answers.Pri pri; thread = Some t };
-  mark = None;
-}
-
-pub enter_step : (setup : SetupParts) (c : ℕ) (s : Flat) (t : Facts) (head : Bool) (moment actor pri : ℕ) → c < cluster_count setup → moment < moment_limit → actor < actor_count setup → s.last ≤ moment → length s.entries < most_threads
-    → ThreadFits setup t → MayEnter setup t c → pri ≡ (new_entry s (settled_thread moment t) head).pri
-    → CStep setup c s (entering_line moment actor c head t pri) (enter_event setup c t head moment s).flat
-enter_step setup c s t head moment actor pri there soon known later room fits may is =
+pub enter_step : (setup : SetupParts) (c : ℕ) (s : Flat) (t : Facts) (head : Bool) (moment actor : ℕ) → c < cluster_count setup → moment < moment_limit → actor < actor_count setup → s.last ≤ moment → length s.entries < most_threads
+    → ThreadFits setup t → MayEnter setup t c → CStep setup c s (unmarked (entry_of moment actor (acts.Enter c head) (enter_event setup c t head moment s))) (enter_event setup c t head moment s).flat
+enter_step setup c s t head moment actor there soon known later room fits may =
     let event : Event = enter_event setup c t head moment s in
     let may_now : (nat_lt (length s.entries) most_threads && may_enter setup t c) ≡ true = and_from (nat_lt (length s.entries) most_threads) (may_enter setup t c) (lt-ltb (length s.entries) most_threads room) may in
-    record {
-      there = there;
-      fits = record {
-        step = and_from (nat_lt moment moment_limit) (nat_lt actor (actor_count setup) && (nat_lt c (cluster_count setup) && true)) (lt-ltb moment moment_limit soon)
-            (and_from (nat_lt actor (actor_count setup)) (nat_lt c (cluster_count setup) && true) (lt-ltb actor (actor_count setup) known)
-            (and_from (nat_lt c (cluster_count setup)) true (lt-ltb c (cluster_count setup) there) refl));
-        mark = refl;
-      };
-      not_before = later;
-      entering = fits;
-      event = event;
-      happens = cond-true (c == c) (entering setup c s head moment t) None (eq-eqb c c refl) ∙ ap (λ b. where_true b event) may_now;
-      told = record { answer = ap answers.Pri is; thread = refl };
-      leads = refl;
-    }
+    place_step setup c s moment actor (acts.Enter c head) None event there soon known later
+    (and_from (nat_lt c (cluster_count setup)) true (lt-ltb c (cluster_count setup) there) refl) refl fits
+    (cond-true (c == c) (entering setup c s head moment t) None (eq-eqb c c refl) ∙ ap (λ b. where_true b event) may_now)
 
 -- a thread as it enters is as much on course
 pub settled_course : (setup : SetupParts) (programs : List Program) (now : ℕ) (t : Facts) → OnCourse setup programs t → OnCourse setup programs (settled_thread now t)

@@ -96,5 +96,5 @@ module _ (setup : SetupParts) (programs : List Program) (desks : List DeskId) (c
       stepped_keeps (unmarked (entry_of moment actor (acts.Enter c head) (entering_at h.cluster t head now))) (entered_in h.cluster t head now slot) refl refl
       (omega (arith, one_more t head now, k.spare, room, k.parked))
       (subst (λ (e : Event). CStep setup c s (unmarked (entry_of moment actor (acts.Enter c head) e)) e.flat) (sym (entering_is t head now))
-      (enter_step setup c s t head moment actor (new_entry s (settled_thread moment t) head).pri (kept_place is) (omega (arith, soon, is.fits.last)) known (omega arith) few on.fits.thread may refl))
+      (enter_step setup c s t head moment actor (kept_place is) (omega (arith, soon, is.fits.last)) known (omega arith) few on.fits.thread may))
       (subst (λ (e : Event). EachQueued (λ (q : Queued). OnCourse setup programs q.facts) e.flat.entries) (sym (entering_is t head now)) (entered_course setup programs c t head moment s k.course on))

@@ -1,8 +1,16 @@
+mod Asking
 mod Books
 mod Entering
+mod FirstSleeper
 mod Keeping
+mod Leaving
 mod Numbers
+mod Offering
 mod Runs
 mod Selecting
 mod Shares
+mod Stepping
 mod Tried
+mod Waking
+mod YardKeeping
+mod YardSteps

@@ -14,6 +14,13 @@ slot_desk c = 2 * c
 abbrev pub line_desk : ℕ → ℕ
 line_desk c = 2 * c + 1
 
+-- the numbers of the desks of the yard's slots and of its lines
+abbrev pub yard_slot_desk : ℕ
+yard_slot_desk = 16
+
+abbrev pub yard_line_desk : ℕ
+yard_line_desk = 17
+
 -- a desk has a number among some
 abbrev pub StandsAt : List DeskId → ℕ → DeskId → Type 0
 StandsAt desks k desk = slice_get desks k ≡ Some desk

@@ -2,7 +2,7 @@
 use Rattle.std.specs.Prelude.{Bool, List, None, Option, Some, false, if◌then◌else◌, length, true, ℕ, ◌+◌, ◌-◌, ◌^◌, ◌≡◌, ◌≤◌}
 use Rattle.rights.specs.Values.{Account, DeskId}
 use Rattle.flat_policy.specs.Policy.Clusters.{ClusterView, after_select, after_touch, moment_at}
-use Rattle.flat_policy.specs.Policy.ClusterSteps.{Event, enter_event, select_event}
+use Rattle.flat_policy.specs.Policy.ClusterSteps.{Event, enter_event, look_event, offer_event, power_event, select_event}
 use Rattle.flat_policy.specs.Policy.Queue.{Flat, Queued}
 use Rattle.flat_policy.specs.Policy.Setup.{SetupParts}
 use Rattle.flat_policy.specs.Policy.WellFormed.{EachQueued}
@@ -10,6 +10,7 @@ use Rattle.flat_policy.specs.Runs.Histories.{CRun}
 use Rattle.flat_policy.specs.Runs.Journals.{JournalParts, pushed}
 use Rattle.flat_policy.specs.Runs.Worker.{Program}
 use Rattle.sched_base.specs.Limits.{most_threads}
+use Rattle.sched_base.specs.declared.Bucket.{Bucket}
 use Rattle.sched_base.specs.declared.Entry.{Entry}
 use Rattle.sched_base.specs.declared.Facts.{Facts}
 use Rattle.sched_base.specs.declared.Ticket.{Ticket}
@@ -64,6 +65,10 @@ entry_of moment actor act event = record {
 abbrev pub unmarked : Entry → Line
 unmarked e = record { entry = e; mark = None }
 
+-- a line with a mark
+abbrev pub marked : ℕ → Entry → Line
+marked m e = record { entry = e; mark = Some m }
+
 -- a held cluster after a step: a line more, a line right burnt, and as many rights of threads as are then queued
 abbrev pub stepped : Line → ClusterView → HeldParts → HeldParts
 stepped l v h = record {
@@ -94,6 +99,35 @@ select_entry actor v now = entry_of (moment_at v now) actor acts.Select (selecti
 abbrev pub after_selecting : ClusterView → ℕ → ClusterView
 after_selecting v now = if v.flat.on then after_select v now else after_touch v now
 
+-- what an offering to another cluster comes to
+abbrev pub offering_at : ClusterView → ℕ → ℕ → Event
+offering_at v to now = offer_event v.setup v.number to (moment_at v now) v.flat
+
+-- its entry
+abbrev pub offer_entry : ℕ → ℕ → ClusterView → ℕ → ℕ → Entry
+offer_entry c actor v to now = entry_of (moment_at v now) actor (acts.Offer c) (offering_at v to now)
+
+-- what a look at the load for a bucket comes to
+abbrev pub looking_at : ClusterView → Bucket → ℕ → Event
+looking_at v b now = look_event v.setup v.number b (moment_at v now) v.flat
+
+-- its entry
+abbrev pub look_entry : ℕ → ℕ → ClusterView → Bucket → ℕ → Entry
+look_entry c actor v b now = entry_of (moment_at v now) actor (acts.Look c) (looking_at v b now)
+
+-- the act that turns a cluster on or off
+abbrev pub power_act : ℕ → Bool → Act
+power_act c true = acts.On c
+power_act c false = acts.Off c
+
+-- what a turn on or off comes to
+abbrev pub turning_at : ClusterView → Bool → ℕ → Event
+turning_at v on now = power_event on (moment_at v now) v.flat
+
+-- its entry
+abbrev pub turn_entry : ℕ → ℕ → ClusterView → Bool → ℕ → Entry
+turn_entry c actor v on now = entry_of (moment_at v now) actor (power_act c on) (turning_at v on now)
+
 -- how many threads left
 abbrev pub left_of : Option Facts → ℕ
 left_of None = 0
@@ -104,6 +138,11 @@ abbrev pub answer_told : Bool → Option Facts → Answer
 answer_told false thread = answers.Off
 answer_told true None = answers.Empty
 answer_told true (Some t) = answers.Got t.name
+
+-- the answer that tells a load, or that the cluster is off
+abbrev pub answer_of_load : Option ℕ → Answer
+answer_of_load None = answers.Off
+answer_of_load (Some load) = answers.Load load
 
 -- the answer is a priority
 abbrev pub TellsPriority : Answer → ℕ → Type 0

@@ -1,4 +1,4 @@
--- Slot rights of each cluster and of the yard, carried together.
+-- Rights of each cluster and of the yard, carried together.
 use Rattle.std.specs.Prelude.{List, if◌then◌else◌, ℕ, ◌+◌, ◌==◌, ◌≡◌}
 use Rattle.rights.specs.Values.{DeskId}
 use Rattle.cells.specs.Desks.{StandsAt}
@@ -33,6 +33,10 @@ amounts_but c own n = record {
   yard = n;
 }
 
+-- so many rights of each cluster, and so many of the yard
+abbrev pub yard_amounts : ℕ → ℕ → Amounts
+yard_amounts each own = record { at0 = each; at1 = each; at2 = each; at3 = each; at4 = each; at5 = each; at6 = each; at7 = each; yard = own }
+
 -- one right of each
 abbrev pub one_each : Amounts
 one_each = record { at0 = 1; at1 = 1; at2 = 1; at3 = 1; at4 = 1; at5 = 1; at6 = 1; at7 = 1; yard = 1 }
@@ -51,17 +55,25 @@ joined x y = record {
   yard = x.yard + y.yard;
 }
 
+-- desks stand at every other number from one on: those of the clusters in order, and last the yard's
+pub record AreFrom (desks : List DeskId) (first : ℕ) (d0 d1 d2 d3 d4 d5 d6 d7 last : DeskId) : Type 0 where
+  pub at0 : StandsAt desks first d0
+  pub at1 : StandsAt desks (first + 2) d1
+  pub at2 : StandsAt desks (first + 4) d2
+  pub at3 : StandsAt desks (first + 6) d3
+  pub at4 : StandsAt desks (first + 8) d4
+  pub at5 : StandsAt desks (first + 10) d5
+  pub at6 : StandsAt desks (first + 12) d6
+  pub at7 : StandsAt desks (first + 14) d7
+  pub yard : StandsAt desks (first + 16) last
+
 -- desks stand at the numbers of slots
-pub record AreOf (desks : List DeskId) (d0 d1 d2 d3 d4 d5 d6 d7 last : DeskId) : Type 0 where
-  pub at0 : StandsAt desks 0 d0
-  pub at1 : StandsAt desks 2 d1
-  pub at2 : StandsAt desks 4 d2
-  pub at3 : StandsAt desks 6 d3
-  pub at4 : StandsAt desks 8 d4
-  pub at5 : StandsAt desks 10 d5
-  pub at6 : StandsAt desks 12 d6
-  pub at7 : StandsAt desks 14 d7
-  pub yard : StandsAt desks 16 last
+abbrev pub AreOf : List DeskId → DeskId → DeskId → DeskId → DeskId → DeskId → DeskId → DeskId → DeskId → DeskId → Type 0
+AreOf desks d0 d1 d2 d3 d4 d5 d6 d7 last = AreFrom desks 0 d0 d1 d2 d3 d4 d5 d6 d7 last
+
+-- desks stand at the numbers of lines
+abbrev pub AreLinesOf : List DeskId → DeskId → DeskId → DeskId → DeskId → DeskId → DeskId → DeskId → DeskId → DeskId → Type 0
+AreLinesOf desks d0 d1 d2 d3 d4 d5 d6 d7 last = AreFrom desks 1 d0 d1 d2 d3 d4 d5 d6 d7 last
 
 -- one right of each cluster, and none of the yard
 abbrev pub each_cluster : Amounts

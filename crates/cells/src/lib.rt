@@ -3,7 +3,7 @@
 //!
 //! A value behind a lock is known by its type alone. So a type, `N: RunName`, names the run: its setup, its programs and its
 //! desks. Rights pay for room: a thread's slot right is parked where the thread is queued, and a line right ends with the
-//! line that it pays, so that no step takes memory and none is refused.
+//! line that it pays, so that no step takes memory and none is refused. `Lines` carries line rights of all places.
 //!
 //! A thread enters behind a lock; later the value is taken out of its lock, and a thread is selected (lines of the tests):
 //!
@@ -12,14 +12,16 @@
 //! let Done { entry, value } = held.select(desks, 0, 9, line);
 //! ```
 //!
-//! So far there is one cluster, and no call hands a held value to another crate. All moments are whole microseconds. `DeskSet::new`,
-//! `HeldCluster::reserve_slot` and `HeldCluster::reserve_lines` take memory; no step does.
+//! `HeldCluster` is one cluster and `HeldYard` the yard; so far a floor has one cluster, and no call hands a held value to another
+//! crate. All moments are whole microseconds. `DeskSet::new` and the calls that reserve room take memory; no step does.
 #![tactic(auto)]
 
 mod desk_set;
 mod done;
 mod floor;
 mod held_cluster;
+mod held_yard;
+mod lines;
 mod pack;
 mod rider;
 mod run_name;
@@ -28,6 +30,8 @@ pub use desk_set::DeskSet;
 pub use done::Done;
 pub use floor::Floor;
 pub use held_cluster::HeldCluster;
+pub use held_yard::HeldYard;
+pub use lines::Lines;
 pub use rider::{Rider, Slots};
 pub use run_name::RunName;
 

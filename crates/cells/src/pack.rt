@@ -1,12 +1,12 @@
 //! Slot rights of all places, carried together.
 ghost use Rattle.std.specs.Prelude.{◌≡◌, ◌+◌, ◌<◌, ◌≤◌, ℕ};
 ghost use Rattle.cells.specs.Desks.{slot_desk};
-ghost use Rattle.cells.specs.Packs.{AreOf, AtLeastBut, amounts_but, beside, joined, one_each};
+ghost use Rattle.cells.specs.Packs.{AreOf, AtLeastBut, amounts_but, beside, each_cluster, joined, one_each, yard_amounts};
 ghost use Rattle.cells.specs.Desks.{StandsAt};
 
 use crate::desk_set::DeskSet;
 use crate::run_name::RunName;
-use rights::Share;
+use rights::{Book, Share};
 use std::marker::{Model, PhantomData};
 
 /// A share of the slot rights of each cluster and of the yard, of the desks of one run. Contracts see how many each
@@ -108,6 +108,76 @@ impl<N: RunName> Pack<N> {
         ensures { self.new ≡ record self.old { yard = self.old.yard + yard.amount } }
     {
         desks.join(16, &mut self.yard, yard);
+    }
+
+    /// Takes the one right of the yard out.
+    pub(crate) fn take_yard(&mut self, desks: &DeskSet) -> Share
+        requires own { desks.now ≡ N.desks }
+        requires whole { self.old ≡ one_each }
+        ensures left { self.new ≡ each_cluster }
+        ensures desk { StandsAt N.desks 16 result.desk }
+        ensures one { result.amount ≡ 1 }
+    {
+        desks.split(16, &mut self.yard, 1)
+    }
+
+    /// Gives one right of each cluster, to which one of the yard's is added.
+    pub(crate) fn give_yard(&mut self, desks: &DeskSet, own: Share) -> Pack<N>
+        requires own { desks.now ≡ N.desks }
+        requires others { (n : ℕ) × (m : ℕ) × (self.old ≡ yard_amounts (n + 1) m) }
+        requires right { StandsAt N.desks 16 own.desk × (own.amount ≡ 1) }
+        ensures left { (n m : ℕ) → self.old ≡ yard_amounts (n + 1) m → self.new ≡ yard_amounts n m }
+        ensures given { result ≡ one_each }
+    {
+        Pack {
+            at0: desks.split(0, &mut self.at0, 1),
+            at1: desks.split(2, &mut self.at1, 1),
+            at2: desks.split(4, &mut self.at2, 1),
+            at3: desks.split(6, &mut self.at3, 1),
+            at4: desks.split(8, &mut self.at4, 1),
+            at5: desks.split(10, &mut self.at5, 1),
+            at6: desks.split(12, &mut self.at6, 1),
+            at7: desks.split(14, &mut self.at7, 1),
+            yard: own,
+            run: PhantomData,
+        }
+    }
+
+    /// Changes nothing. It tells that its rights of the yard and those that the yard's book has parked are at most the
+    /// minted ones.
+    pub(crate) fn count_yard(&mut self, desks: &DeskSet, book: &mut Book)
+        requires own { desks.now ≡ N.desks }
+        requires book { StandsAt N.desks 16 book.old.desk }
+        ensures same { self.new ≡ self.old }
+        ensures book { book.new ≡ book.old }
+        ensures law { book.old.parked + self.old.yard ≤ book.old.minted }
+    {
+        let desk = desks.desk(16);
+        let amount = self.yard.amount();
+        let all = self.yard.split(desk, amount);
+        book.take_in(desk, all);
+        let all = book.give_out(desk, amount);
+        self.yard.join(desk, all);
+    }
+
+    /// Its rights of the yard; the others go with it.
+    pub(crate) fn into_yard(self) -> Share
+        ensures desk { StandsAt N.desks 16 result.desk }
+        ensures amount { result.amount ≡ self.yard }
+    {
+        let Pack {
+            at0: _,
+            at1: _,
+            at2: _,
+            at3: _,
+            at4: _,
+            at5: _,
+            at6: _,
+            at7: _,
+            yard,
+            run: _,
+        } = self;
+        yard
     }
 
     /// Takes the one right of a cluster out.

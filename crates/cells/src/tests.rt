@@ -8,6 +8,10 @@ ghost use Rattle.cells.specs.Desks.{AreFresh, StandsAt, desk_count, fresh_book, 
 ghost use Rattle.cells.specs.Held.{EnteredSome};
 ghost use Rattle.cells.specs.Packs.{amounts_but, one_each};
 
+mod turning;
+mod waking;
+mod yard;
+
 use super::*;
 use crate::held_cluster::new_queue;
 use crate::pack::Pack;
@@ -22,6 +26,8 @@ use std::marker::Brand;
 use std::sync::Wait;
 use std::test::*;
 use std::thread::{Threads, join};
+
+mod lines;
 
 // The two books of a place are taken: a share of none and a share of one of its slot rights.
 fn two_shares(desks: &DeskSet, books: &mut Vec<Book>, k: usize) -> (Share, Share)
@@ -88,39 +94,43 @@ fn made_and_entered<N: RunName, R: Wait>(
     floor.enter(rt, &NoGate, 0, Rider::of(thread, pack), 5, line)
 }
 
-// Cluster 0 of a run with one slot right and two line rights minted: it, the rights of the other places, the slot
+// Cluster 0 of a run with one slot right and some line rights minted: it, the rights of the other places, the slot
 // right and the line rights.
 fn ready<N: RunName>(
     alloc: Global,
     setup: &Setup,
     desks: &DeskSet,
     books: Vec<Book>,
+    n: u64,
 ) -> Result<(HeldCluster<PlainCluster, N, 0>, Pack<N>, Share), AllocError>
     requires setup { setup.now ≡ N.setup }
     requires desks { desks.now ≡ N.desks }
     requires fresh { AreFresh desks.now books.items }
     requires len { length books.items ≡ desk_count }
+    requires some { n < 100 }
     ensures pack { IfOk result (λ r. r.1 ≡ one_each) }
-    ensures lines { IfOk result (λ r. StandsAt N.desks (line_desk 0) r.2.desk × (r.2.amount ≡ 2)) }
+    ensures lines { IfOk result (λ r. StandsAt N.desks (line_desk 0) r.2.desk × (r.2.amount ≡ n)) }
 {
     setup.keeps_ranges();
     let queue = new_queue::<PlainCluster>(alloc, setup, 0)?;
     let (none, ones, slots, lines) = packs::<N>(desks, books);
     let held = HeldCluster::new(queue, Journal::new(alloc), slots, lines, none);
-    minted(desks, held, ones)
+    minted(desks, held, ones, n)
 }
 
-// One slot right and two line rights are minted.
+// One slot right and some line rights are minted.
 fn minted<N: RunName>(
     desks: &DeskSet,
     held: HeldCluster<PlainCluster, N, 0>,
     ones: Pack<N>,
+    n: u64,
 ) -> Result<(HeldCluster<PlainCluster, N, 0>, Pack<N>, Share), AllocError>
     requires desks { desks.now ≡ N.desks }
     requires slots { (held.slots.minted ≡ 0) × (held.lines.minted ≡ 0) }
     requires ones { ones ≡ amounts_but 0 0 1 }
+    requires some { n < 100 }
     ensures pack { IfOk result (λ r. r.1 ≡ one_each) }
-    ensures lines { IfOk result (λ r. StandsAt N.desks (line_desk 0) r.2.desk × (r.2.amount ≡ 2)) }
+    ensures lines { IfOk result (λ r. StandsAt N.desks (line_desk 0) r.2.desk × (r.2.amount ≡ n)) }
 {
     let mut held = held;
     let mut pack = ones;
@@ -128,12 +138,12 @@ fn minted<N: RunName>(
         held.close();
         return Err(AllocError);
     }
-    if held.reserve_lines(2).is_err() {
+    if held.reserve_lines(n).is_err() {
         held.close();
         return Err(AllocError);
     }
     let own = held.mint_slot(desks);
-    let line = held.mint_lines(desks, 2);
+    let line = held.mint_lines(desks, n);
     pack.put(desks, 0, own);
     Ok((held, pack, line))
 }
@@ -224,7 +234,7 @@ fn tried<N: RunName + Send + Sync, R: Threads + Wait + Sync>(
     requires home { home_of setup 0 ≡ 0 }
 {
     setup.keeps_ranges();
-    let ready = ready::<N>(alloc, &setup, &desks, books)?;
+    let ready = ready::<N>(alloc, &setup, &desks, books, 2)?;
     Ok(entered_by_two(rt, desks, ready))
 }
 

@@ -8,7 +8,8 @@ use Rattle.cells.specs.Courses.{Fits, OnCourse}
 use Rattle.cells.specs.Held.{HeldParts, Keeps, after_selecting, answer_told, left_of, select_entry, selecting_at, stepped, unmarked}
 use Rattle.cells.specs.Packs.{amounts_but}
 use Rattle.cells.proofs.Keeping.{kept_numbers, same_parts}
-use Rattle.cells.proofs.Selecting.{selecting_answer, selecting_one, selecting_place, selects_keeps, some_weaker}
+use Rattle.cells.proofs.Leaving.{some_weaker}
+use Rattle.cells.proofs.Selecting.{selecting_answer, selecting_one, selecting_place, selects_keeps}
 use Rattle.cells.proofs.held_cluster.HeldCluster.select.Given as given
 use Rattle.cells.proofs.held_cluster.HeldCluster.select.Goals as goal
 
