@@ -1,67 +1,43 @@
--- The threads of the tests are on course in every setup that they fit.
-use Rattle.std.proofs.Common.{◌≡◌, ◌<◌, ◌==◌, ◌^◌, ℕ, nat_lt, true, [], ◌∷◌, filter, Option, Some, None, refl, sym, subst, arith}
-use Rattle.std.specs.Option.{option_map_or}
+-- The programs of the tests may run in every setup that is as they ask.
+use Rattle.std.proofs.Common.{◌≡◌, ℕ, zero, suc, ◌<◌, ◌≢◌, ◌^◌, nat_lt, true, [], ◌∷◌, get_or, refl, arith}
+use Rattle.std.specs.List.{Contains}
 use Rattle.std.proofs.lemmas.Bool.{and_from, lt-ltb}
-use Rattle.std.proofs.lemmas.Option.{none-some, same_Some}
-use Rattle.sched_base.specs.declared.Bucket.TheVariants.{Fg}
 use Rattle.flat_policy.specs.Policy.BuiltSetups.{IsSetup}
-use Rattle.flat_policy.specs.Policy.Setup.{SetupParts, cluster_count, group_count, preferred_cluster}
-use Rattle.flat_policy.specs.Policy.Threads.{preference}
+use Rattle.flat_policy.specs.Policy.Setup.{SetupParts, group_count}
 use Rattle.flat_policy.specs.Runs.Worker.{Program}
-use Rattle.cells.specs.Courses.{OnCourse, napping_program, napping_programs, napping_thread, program_bound_to, roaming_program, thread_bound_to, tried_program, tried_thread}
+use Rattle.trace_text.specs.Runs.{SpanFits}
+use Rattle.cells.specs.Courses.{IsPair, tried_program, tried_programs}
+use Rattle.cells.specs.Frames.{AreRunnable, FitsSetup}
 
-course_of : (setup : SetupParts) → IsSetup setup → (bound : Option ℕ) → ((c : ℕ) → bound ≡ Some c → c < cluster_count setup) → option_map_or (λ c. nat_lt c (cluster_count setup)) bound true ≡ true → 0 ≡ preference setup 0 Fg bound
-    → OnCourse setup (program_bound_to bound ∷ []) (thread_bound_to bound)
-course_of setup is bound there test prefer =
+one_span : (k d : ℕ) → k < 1 → SpanFits (get_or (5000 ∷ []) k d)
+one_span zero d within = (omega arith, omega arith)
+one_span (suc k) d within = absurd (omega (arith, within))
+
+-- one of them fits every setup
+tried_fits : (setup : SetupParts) (name : ℕ) → IsSetup setup → name < 2 ^ 32 → FitsSetup setup (tried_program name)
+tried_fits setup name is small =
     let group : 0 < group_count setup = omega (arith, is.groups_least) in
     record {
-      fits = record {
-        program = program_bound_to bound;
-        one = refl;
-        fitting = and_from (nat_lt 0 (group_count setup)) (option_map_or (λ c. nat_lt c (cluster_count setup)) bound true) (lt-ltb 0 (group_count setup) group) test;
-        of_it = record { name = refl; group = refl; bucket = refl; base = refl; bound = refl };
-        thread = record {
-          group = group;
-          base = omega arith;
-          bound = there;
-          prefer = prefer;
-          name = omega arith;
-          usage = omega arith;
-          pending_ran = omega arith;
-          pending_blocked = omega arith;
-        };
-      };
-      left = omega arith;
+      numbers = record { name = small; group = omega arith; base = omega arith; bound = tt; spans = one_span; odd = refl; few = omega arith };
+      there = and_from (nat_lt 0 (group_count setup)) true (lt-ltb 0 (group_count setup) group) refl;
     }
 
-pub tried_course : (setup : SetupParts) → IsSetup setup → OnCourse setup (tried_program ∷ []) tried_thread
-tried_course setup is =
-    let cluster : 0 < cluster_count setup = omega (arith, is.clusters_least) in
-    course_of setup is (Some 0) (λ c e. subst (λ (d : ℕ). d < cluster_count setup) (same_Some 0 c e) cluster) (lt-ltb 0 (cluster_count setup) cluster) refl
+each_fits : (setup : SetupParts) → IsSetup setup → (k : ℕ) (d : Program) → k < 2 → FitsSetup setup (get_or tried_programs k d)
+each_fits setup is zero d within = tried_fits setup 3 is (omega arith)
+each_fits setup is (suc zero) d within = tried_fits setup 7 is (omega arith)
+each_fits setup is (suc (suc k)) d within = absurd (omega (arith, within))
 
-pub roaming_course : (setup : SetupParts) → IsSetup setup → preferred_cluster setup 0 Fg ≡ 0 → OnCourse setup (roaming_program ∷ []) (thread_bound_to None)
-roaming_course setup is prefers = course_of setup is None (λ c e. absurd (none-some c e)) refl (sym prefers)
+both_differ : (i j : ℕ) (d : Program) → i < j → j < 2 → (get_or tried_programs i d).name ≢ (get_or tried_programs j d).name
+both_differ zero zero d less below = absurd (omega (arith, less))
+both_differ zero (suc zero) d less below = λ e. absurd (omega (arith, e))
+both_differ zero (suc (suc j)) d less below = absurd (omega (arith, below))
+both_differ (suc i) zero d less below = absurd (omega (arith, less))
+both_differ (suc i) (suc zero) d less below = absurd (omega (arith, less))
+both_differ (suc i) (suc (suc j)) d less below = absurd (omega (arith, below))
 
-pub napping_course : (setup : SetupParts) (name : ℕ) → IsSetup setup → name < 2 ^ 32 → filter (λ (p : Program). p.name == name) napping_programs ≡ napping_program name ∷ []
-    → OnCourse setup napping_programs (napping_thread setup name)
-napping_course setup name is small one =
-    let group : 0 < group_count setup = omega (arith, is.groups_least) in
-    record {
-      fits = record {
-        program = napping_program name;
-        one = one;
-        fitting = and_from (nat_lt 0 (group_count setup)) true (lt-ltb 0 (group_count setup) group) refl;
-        of_it = record { name = refl; group = refl; bucket = refl; base = refl; bound = refl };
-        thread = record {
-          group = group;
-          base = omega arith;
-          bound = λ c e. absurd (none-some c e);
-          prefer = refl;
-          name = small;
-          usage = omega arith;
-          pending_ran = omega arith;
-          pending_blocked = omega arith;
-        };
-      };
-      left = omega arith;
-    }
+pub tried_runnable : (setup : SetupParts) → IsSetup setup → IsPair setup → AreRunnable setup tried_programs
+tried_runnable setup is pair = record { each = each_fits setup is; differ = both_differ; few = pair.threads }
+
+-- the second is one of them
+pub second_tried : Contains tried_programs (tried_program 7)
+second_tried = (1, omega arith, refl)

@@ -1,5 +1,5 @@
 -- Making a thread, going to sleep and ending in a held yard: the steps that their lines make, and what they keep.
-use Rattle.std.proofs.Common.{◌≡◌, ℕ, ◌+◌, ◌<◌, ◌≤◌, ◌==◌, nat_le, nat_lt, ◌^◌, ◌&&◌, not, true, false, List, [], ◌∷◌, ◌++◌, length, Option, None, Some, refl, sym, ap, ◌∙◌, subst, arith}
+use Rattle.std.proofs.Common.{◌≡◌, ℕ, ◌+◌, ◌<◌, ◌≤◌, ◌==◌, nat_le, nat_lt, ◌^◌, ◌&&◌, not, true, false, List, [], ◌∷◌, ◌++◌, length, Option, None, Some, refl, sym, ap, ◌∙◌, arith}
 use Rattle.std.specs.List.{list_any}
 use Rattle.std.specs.Option.{option_map_or}
 use Rattle.std.specs.Prelude.{IsTrue}
@@ -10,11 +10,10 @@ use Rattle.sched_base.specs.Limits.{moment_limit, most_base, most_threads}
 use Rattle.sched_base.specs.declared.Act.TheVariants as acts
 use Rattle.sched_base.specs.declared.Facts.{Facts}
 use Rattle.sched_base.specs.declared.Step.{Step}
-use Rattle.flat_policy.specs.declared.journal.Line.{Line}
 use Rattle.flat_policy.specs.Policy.Machine.{fits_act, fits_step, numbers_fit}
 use Rattle.flat_policy.specs.Policy.Setup.{SetupParts, actor_count, cluster_count, group_count}
 use Rattle.flat_policy.specs.Policy.Threads.{ThreadFits, made_thread}
-use Rattle.flat_policy.specs.Runs.Histories.{DueSleeper, RunYard, YStep, YardEvent, due_after, ending, live_of_run, making, sleeping, where_true}
+use Rattle.flat_policy.specs.Runs.Histories.{DueSleeper, RunYard, YStep, due_after, ending, live_of_run, making, sleeping, where_true}
 use Rattle.flat_policy.specs.Runs.Worker.{Program}
 use Rattle.cells.specs.Courses.{OnCourse}
 use Rattle.cells.specs.Held.{unmarked}

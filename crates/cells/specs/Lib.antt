@@ -1,8 +1,14 @@
 pub mod Courses
 pub mod Desks
+pub mod Floors
+pub mod Fresh
+pub mod Frames
 pub mod Held
 pub mod Lines
+pub mod Making
 pub mod Packs
 pub mod Sleepers
+pub mod Stills
+pub mod Told
 pub mod Waking
 pub mod Yards

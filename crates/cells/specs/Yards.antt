@@ -1,10 +1,10 @@
 -- What lies behind the lock of the yard: the blocked threads with their journal, books and rights.
 use Rattle.std.specs.List.{list_any}
 use Rattle.std.specs.Option.{option_map_or}
-use Rattle.std.specs.Prelude.{Bool, List, None, Option, Some, [], length, max, nat_le, option_and_then, true, ℕ, ◌+◌, ◌-◌, ◌<◌, ◌≡◌, ◌≤◌, ◌++◌, ◌∷◌}
+use Rattle.std.specs.Prelude.{Bool, List, None, Option, Some, [], length, max, nat_le, option_and_then, ℕ, ◌+◌, ◌-◌, ◌<◌, ◌≡◌, ◌≤◌, ◌++◌, ◌∷◌}
 use Rattle.rights.specs.Values.{Account, DeskId}
 use Rattle.flat_policy.specs.Policy.Setup.{SetupParts}
-use Rattle.flat_policy.specs.Runs.Histories.{DueSleeper, RunYard, YRun, YardEvent, ending, first_sleeper, others_blocked, sleeping, where_true}
+use Rattle.flat_policy.specs.Runs.Histories.{DueSleeper, RunYard, YRun, YardEvent, first_sleeper, others_blocked, where_true}
 use Rattle.flat_policy.specs.Runs.Journals.{JournalParts, pushed}
 use Rattle.flat_policy.specs.Runs.Worker.{Program}
 use Rattle.sched_base.specs.Facts.{rested}

@@ -2,8 +2,8 @@
 ghost use Rattle.std.specs.Prelude.{◌≡◌, ◌<◌, ◌≤◌, ◌+◌, ◌==◌, IfOk, OnErr, OnOk, length};
 ghost use Rattle.flat_policy.specs.Policy.Clusters.{new_cluster};
 ghost use Rattle.flat_policy.specs.Policy.Setup.{cluster_count};
-ghost use Rattle.flat_policy.specs.Runs.Journals.{empty_journal};
-ghost use Rattle.cells.specs.Desks.{StandsAt, fresh_book, line_desk, slot_desk};
+ghost use Rattle.flat_policy.specs.Runs.Journals.{empty_journal, pushed};
+ghost use Rattle.cells.specs.Desks.{StandsAt, fresh_book, line_desk, slot_desk, yard_slot_desk};
 ghost use Rattle.cells.specs.Held.{AreSmall, Keeps};
 ghost use Rattle.cells.specs.Packs.{amounts_but};
 
@@ -14,9 +14,10 @@ use crate::desk_set::DeskSet;
 use crate::pack::Pack;
 use crate::run_name::RunName;
 use flat_policy::cluster::Cluster;
-use flat_policy::journal::Journal;
+use flat_policy::journal::{Journal, Line};
 use flat_policy::setup::Setup;
 use rights::{Book, Share};
+use sched_base::Entry;
 use sched_base::limits::MOST_THREADS;
 use std::alloc::{AllocError, Global};
 use std::marker::Model;
@@ -149,9 +150,12 @@ impl<K: Cluster, N: RunName, const C: usize> HeldCluster<K, N, C> {
         self.lines.mint(desks.desk(2 * C + 1), n)
     }
 
-    /// Ends the held cluster with every thread that is queued there, and gives out its journal.
-    pub(crate) fn close(self) -> Journal
-        ensures { result ≡ self.journal }
+    /// Ends the held cluster with every thread that is queued there. It gives out the journal, and the yard's slot rights of
+    /// those threads.
+    pub(crate) fn close(self) -> (Journal, Share)
+        ensures journal { result.0 ≡ self.journal }
+        ensures desk { StandsAt N.desks yard_slot_desk result.1.desk }
+        ensures amount { result.1.amount ≡ length self.cluster.flat.entries }
     {
         self.queue.keeps();
         // So few lines that no number of the queue comes near its end.
@@ -161,10 +165,10 @@ impl<K: Cluster, N: RunName, const C: usize> HeldCluster<K, N, C> {
             journal,
             slots: _,
             lines: _,
-            others: _,
+            others,
         } = self;
         end_queue(Box::into_inner(queue));
-        journal
+        (journal, others.into_yard())
     }
 }
 
@@ -184,6 +188,14 @@ pub(crate) fn new_queue<K: Cluster>(
             Err(AllocError)
         }
     }
+}
+
+// A step's line is added to a journal.
+pub(crate) fn add_line(journal: &mut Journal, entry: Entry, mark: Option<u32>)
+    requires { 1 ≤ journal.old.free }
+    ensures { journal.new ≡ pushed (record { entry = entry; mark = mark }) journal.old }
+{
+    journal.push(Line { entry, mark });
 }
 
 // Ends a queue, and every thread in it.

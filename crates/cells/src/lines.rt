@@ -14,15 +14,15 @@ use std::marker::{Model, PhantomData};
 /// share has. One that is dropped takes its rights with it: they stay minted, and nobody has them.
 #[derive(Drop)]
 pub struct Lines<N: RunName> {
-    line0: Share,
-    line1: Share,
-    line2: Share,
-    line3: Share,
-    line4: Share,
-    line5: Share,
-    line6: Share,
-    line7: Share,
-    yard: Share,
+    pub(crate) line0: Share,
+    pub(crate) line1: Share,
+    pub(crate) line2: Share,
+    pub(crate) line3: Share,
+    pub(crate) line4: Share,
+    pub(crate) line5: Share,
+    pub(crate) line6: Share,
+    pub(crate) line7: Share,
+    pub(crate) yard: Share,
     run: PhantomData<N>,
 }
 

@@ -3,6 +3,7 @@ ghost use Rattle.std.specs.Prelude.{◌≡◌, ◌+◌, ◌<◌, ◌≤◌, ℕ}
 ghost use Rattle.cells.specs.Desks.{slot_desk};
 ghost use Rattle.cells.specs.Packs.{AreOf, AtLeastBut, amounts_but, beside, each_cluster, joined, one_each, yard_amounts};
 ghost use Rattle.cells.specs.Desks.{StandsAt};
+ghost use Rattle.cells.specs.Fresh.{with_more};
 
 use crate::desk_set::DeskSet;
 use crate::run_name::RunName;
@@ -13,15 +14,15 @@ use std::marker::{Model, PhantomData};
 /// share has.
 #[derive(Drop)]
 pub(crate) struct Pack<N: RunName> {
-    at0: Share,
-    at1: Share,
-    at2: Share,
-    at3: Share,
-    at4: Share,
-    at5: Share,
-    at6: Share,
-    at7: Share,
-    yard: Share,
+    pub(crate) at0: Share,
+    pub(crate) at1: Share,
+    pub(crate) at2: Share,
+    pub(crate) at3: Share,
+    pub(crate) at4: Share,
+    pub(crate) at5: Share,
+    pub(crate) at6: Share,
+    pub(crate) at7: Share,
+    pub(crate) yard: Share,
     run: PhantomData<N>,
 }
 
@@ -233,6 +234,45 @@ impl<N: RunName> Pack<N> {
         requires others { self.old ≡ amounts_but c 0 1 }
         requires right { StandsAt N.desks (slot_desk c) own.desk × (own.amount ≡ 1) }
         ensures { self.new ≡ one_each }
+    {
+        match c {
+            0 => desks.join(0, &mut self.at0, own),
+            1 => desks.join(2, &mut self.at1, own),
+            2 => desks.join(4, &mut self.at2, own),
+            3 => desks.join(6, &mut self.at3, own),
+            4 => desks.join(8, &mut self.at4, own),
+            5 => desks.join(10, &mut self.at5, own),
+            6 => desks.join(12, &mut self.at6, own),
+            _ => desks.join(14, &mut self.at7, own),
+        }
+    }
+
+    /// A pack of no rights; this one stays as it is.
+    pub(crate) fn none(&mut self, desks: &DeskSet) -> Pack<N>
+        requires own { desks.now ≡ N.desks }
+        ensures same { self.new ≡ self.old }
+        ensures none { result ≡ yard_amounts 0 0 }
+    {
+        Pack {
+            at0: desks.split(0, &mut self.at0, 0),
+            at1: desks.split(2, &mut self.at1, 0),
+            at2: desks.split(4, &mut self.at2, 0),
+            at3: desks.split(6, &mut self.at3, 0),
+            at4: desks.split(8, &mut self.at4, 0),
+            at5: desks.split(10, &mut self.at5, 0),
+            at6: desks.split(12, &mut self.at6, 0),
+            at7: desks.split(14, &mut self.at7, 0),
+            yard: desks.split(16, &mut self.yard, 0),
+            run: PhantomData,
+        }
+    }
+
+    /// Takes in a share of the rights of a cluster.
+    pub(crate) fn add(&mut self, desks: &DeskSet, c: usize, own: Share)
+        requires own { desks.now ≡ N.desks }
+        requires there { c < 8 }
+        requires right { StandsAt N.desks (slot_desk c) own.desk }
+        ensures { self.new ≡ with_more c own.amount self.old }
     {
         match c {
             0 => desks.join(0, &mut self.at0, own),

@@ -6,12 +6,11 @@ ghost use Rattle.flat_policy.specs.Policy.Setup.{actor_count};
 ghost use Rattle.cells.specs.Desks.{StandsAt, line_desk};
 ghost use Rattle.cells.specs.Held.{answer_of_load, look_entry, looking_at, marked, power_act, stepped, turn_entry, unmarked};
 
-use super::HeldCluster;
+use super::{HeldCluster, add_line};
 use crate::desk_set::DeskSet;
 use crate::done::Done;
 use crate::run_name::RunName;
 use flat_policy::cluster::Cluster;
-use flat_policy::journal::Line;
 use rights::Share;
 use sched_base::limits::MOMENT_LIMIT;
 use sched_base::{Act, Answer, Bucket, Entry, Step};
@@ -50,7 +49,7 @@ impl<K: Cluster, N: RunName, const C: usize> HeldCluster<K, N, C> {
             thread: None,
         };
         let mark = Some(u32::from(b.index()));
-        self.journal.push(Line { entry, mark });
+        add_line(&mut self.journal, entry, mark);
         Done { entry, value }
     }
 
@@ -74,7 +73,7 @@ impl<K: Cluster, N: RunName, const C: usize> HeldCluster<K, N, C> {
             answer: Answer::Yes,
             thread: None,
         };
-        self.journal.push(Line { entry, mark: None });
+        add_line(&mut self.journal, entry, None);
         Done { entry, value: () }
     }
 }

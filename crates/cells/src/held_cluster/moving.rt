@@ -8,14 +8,13 @@ ghost use Rattle.cells.specs.Desks.{StandsAt, line_desk, slot_desk};
 ghost use Rattle.cells.specs.Held.{TellsPriority, after_selecting, answer_told, enter_entry, left_of, offer_entry, offering_at, select_entry, selecting_at, stepped, unmarked};
 ghost use Rattle.cells.specs.Packs.{amounts_but};
 
-use super::HeldCluster;
+use super::{HeldCluster, add_line};
 use crate::desk_set::DeskSet;
 use crate::done::Done;
 use crate::pack::Pack;
 use crate::rider::Rider;
 use crate::run_name::RunName;
 use flat_policy::cluster::Cluster;
-use flat_policy::journal::Line;
 use rights::{Book, Share};
 use sched_base::limits::{MOMENT_LIMIT, STEAL_MASKS};
 use sched_base::{Act, Answer, Entry, Facts, Step, Thread, Ticket};
@@ -68,7 +67,7 @@ impl<K: Cluster, N: RunName, const C: usize> HeldCluster<K, N, C> {
             answer: Answer::Pri(ticket.pri),
             thread: Some(facts),
         };
-        self.journal.push(Line { entry, mark: None });
+        add_line(&mut self.journal, entry, None);
         Done {
             entry,
             value: ticket,
@@ -110,7 +109,7 @@ impl<K: Cluster, N: RunName, const C: usize> HeldCluster<K, N, C> {
             answer: answer_of(on, &thread),
             thread: facts_in(&thread),
         };
-        self.journal.push(Line { entry, mark: None });
+        add_line(&mut self.journal, entry, None);
         let value = released(C, &mut self.slots, &mut self.others, desks, thread);
         Done { entry, value }
     }
@@ -156,7 +155,7 @@ impl<K: Cluster, N: RunName, const C: usize> HeldCluster<K, N, C> {
             answer: answer_of(true, &thread),
             thread: facts_in(&thread),
         };
-        self.journal.push(Line { entry, mark: None });
+        add_line(&mut self.journal, entry, None);
         let value = released(C, &mut self.slots, &mut self.others, desks, thread);
         Done { entry, value }
     }

@@ -1,131 +1,130 @@
-//! A thread is made in a held yard and goes to sleep there.
-ghost use Rattle.std.specs.Prelude.{◌≡◌, ◌<◌, ◌+◌, ◌*◌, [], ◌∷◌, IfOk, length};
-ghost use Rattle.flat_policy.specs.Policy.Setup.{actor_count};
-ghost use Rattle.flat_policy.specs.Runs.Histories.{empty_run_yard};
-ghost use Rattle.cells.specs.Courses.{OnCourse, tried_program, tried_thread};
-ghost use Rattle.cells.specs.Desks.{AreFresh, StandsAt, desk_count, fresh_book, yard_line_desk, yard_slot_desk};
-ghost use Rattle.cells.specs.Packs.{each_cluster, yard_amounts};
+//! Two threads sleep in the yard, and are woken by their due moments and their names.
+ghost use Rattle.std.specs.Prelude.{◌≡◌, ◌≤◌, ◌+◌, IfOk, IfSome, OnOk, length};
+ghost use Rattle.sched_base.specs.declared.Spot.TheVariants as spots;
+ghost use Rattle.cells.specs.Courses.{IsPair, OnCourse, tried_programs};
+ghost use Rattle.cells.specs.Desks.{AreFresh, desk_count};
+ghost use Rattle.cells.specs.Lines.{left_at};
+ghost use Rattle.cells.specs.Making.{AtMost, IsNew};
 
+use super::moving::{eight_turns, made};
 use super::*;
 
-// The books of the yard, a pack of nothing, and a pack of one right of each cluster.
-fn yard_packs<N: RunName>(desks: &DeskSet, books: Vec<Book>) -> (Book, Book, Pack<N>, Pack<N>)
-    requires own { desks.now ≡ N.desks }
-    requires fresh { AreFresh desks.now books.items }
-    requires len { length books.items ≡ desk_count }
-    ensures slots { StandsAt N.desks yard_slot_desk result.0.desk × (result.0 ≡ fresh_book result.0.desk) }
-    ensures lines { StandsAt N.desks yard_line_desk result.1.desk × (result.1 ≡ fresh_book result.1.desk) }
-    ensures none { result.2 ≡ yard_amounts 0 0 }
-    ensures each { result.3 ≡ each_cluster }
+// Threads 3 and 7 are made.
+fn two_made<N: RunName>(
+    still: &mut Still<PlainCluster, N>,
+    lines: &mut Lines<N>,
+) -> Result<(Rider<N>, Rider<N>), AllocError>
+    requires pair { IsPair N.setup }
+    requires programs { N.programs ≡ tried_programs }
+    requires unused { length still.old.yard.yard.made ≡ 0 }
+    requires few { AtMost 0 still.old }
+    requires line { 2 ≤ left_at spots.Yard lines.old }
+    ensures three { IfOk result (λ r. OnCourse N.setup N.programs r.0) }
+    ensures seven { IfOk result (λ r. OnCourse N.setup N.programs r.1) }
+    ensures line { OnOk result (left_at spots.Yard lines.old ≡ left_at spots.Yard lines.new + 2) }
 {
-    let mut books = books;
-    let lines = desks.last_book(&mut books);
-    let mut slots = desks.last_book(&mut books);
-    let yard = slots.mint(desks.desk(16), 0);
-    let yard_none = slots.mint(desks.desk(16), 0);
-    let (at7, at7_one) = two_shares(desks, &mut books, 7);
-    let (at6, at6_one) = two_shares(desks, &mut books, 6);
-    let (at5, at5_one) = two_shares(desks, &mut books, 5);
-    let (at4, at4_one) = two_shares(desks, &mut books, 4);
-    let (at3, at3_one) = two_shares(desks, &mut books, 3);
-    let (at2, at2_one) = two_shares(desks, &mut books, 2);
-    let (at1, at1_one) = two_shares(desks, &mut books, 1);
-    let (at0, at0_one) = two_shares(desks, &mut books, 0);
-    let none = Pack::of(at0, at1, at2, at3, at4, at5, at6, at7, yard);
-    let each = Pack::of(
-        at0_one, at1_one, at2_one, at3_one, at4_one, at5_one, at6_one, at7_one, yard_none,
-    );
-    (slots, lines, none, each)
-}
-
-// Room for a blocked thread, and two line rights.
-fn yard_ready<N: RunName>(
-    desks: &DeskSet,
-    held: HeldYard<N>,
-) -> Result<(HeldYard<N>, Share), AllocError>
-    requires desks { desks.now ≡ N.desks }
-    requires yard { held.yard ≡ empty_run_yard }
-    requires minted { (held.slots.minted ≡ 0) × (held.lines.minted ≡ 0) }
-    ensures yard { IfOk result (λ r. r.0.yard ≡ empty_run_yard) }
-    ensures slots { IfOk result (λ r. (r.0.slots.minted ≡ 0) × (0 < r.0.room)) }
-    ensures lines { IfOk result (λ r. StandsAt N.desks yard_line_desk r.1.desk × (r.1.amount ≡ 2)) }
-{
-    let mut held = held;
-    if held.reserve_slot().is_err() {
-        held.close();
-        return Err(AllocError);
+    let three = made(still, &program(3), lines)?;
+    match made(still, &program(7), lines) {
+        Ok(seven) => Ok((three, seven)),
+        Err(failed) => {
+            let_go(Some(three));
+            Err(failed)
+        }
     }
-    if held.reserve_lines(2).is_err() {
-        held.close();
-        return Err(AllocError);
-    }
-    let lines = held.mint_lines(desks, 2);
-    Ok((held, lines))
 }
 
-// A thread is made at the moment 0, and sleeps from 5 on for 7: both entries, how many live and are blocked, the last
-// moment, and the journal.
-fn made_to_sleep<N: RunName>(
-    desks: &DeskSet,
-    ready: (HeldYard<N>, Share),
-    slots: Slots<N>,
-) -> ((Entry, Entry), (u32, u32, u64), Journal)
-    requires desks { desks.now ≡ N.desks }
-    requires yard { ready.0.yard ≡ empty_run_yard }
-    requires slots { (ready.0.slots.minted ≡ 0) × (0 < ready.0.room) }
-    requires lines { StandsAt N.desks yard_line_desk ready.1.desk × (ready.1.amount ≡ 2) }
-    requires actor { 0 < actor_count N.setup }
-    requires threads { 0 < N.setup.threads }
-    requires course { OnCourse N.setup N.programs tried_thread }
+// A thread ends, where there is one.
+fn ends<N: RunName>(
+    still: &mut Still<PlainCluster, N>,
+    rider: Option<Rider<N>>,
+    lines: &mut Lines<N>,
+)
+    requires pair { IsPair N.setup }
+    requires line { 1 ≤ left_at spots.Yard lines.old }
+    ensures { left_at spots.Yard lines.old ≤ left_at spots.Yard lines.new + 1 }
 {
-    let (held, line) = ready;
-    let mut held = held;
-    let mut line = line;
-    let second = desks.split(17, &mut line, 1);
-    let thread = Thread::new(1, 0, Bucket::Fg, 31, Some(0), 0, 0);
-    let Done {
-        entry: made,
-        value: rider,
-    } = held.enlist(desks, 0, thread, slots, 0, line);
-    let slept = held.sleep(desks, 0, rider, 7, 5, second);
-    let told = (held.live(), held.blocked(), held.last());
-    let (journal, _, _) = held.close();
-    ((made, slept.entry), told, journal)
+    if let Some(rider) = rider {
+        still.end(0, rider, 0, lines);
+    }
 }
 
-fn tried_yard<N: RunName>(
+// Both sleep for 7000: none is due at 6999, the one of the lesser name at 7000, and then the other is woken at its moment.
+fn napped<N: RunName>(still: &mut Still<PlainCluster, N>) -> Result<(), AllocError>
+    requires pair { IsPair N.setup }
+    requires programs { N.programs ≡ tried_programs }
+    requires new { IsNew N.setup 0 still.old }
+    requires few { AtMost 0 still.old }
+{
+    let mut lines = eight_turns(still)?;
+    let (three, seven) = two_made(still, &mut lines)?;
+    still.sleep(0, three, 7000, 0, &mut lines);
+    still.sleep(0, seven, 7000, 0, &mut lines);
+    let_go(still.wake_due(0, 6999, &mut lines).value);
+    let first = still.wake_due(0, 7000, &mut lines).value;
+    let second = still.wake_first(1, 100, &mut lines).value;
+    ends(still, first, &mut lines);
+    ends(still, second, &mut lines);
+    Ok(())
+}
+
+fn tried<N: RunName>(
     alloc: Global,
-    setup: &Setup,
-    desks: &DeskSet,
+    setup: Setup,
+    desks: DeskSet,
     books: Vec<Book>,
-) -> Result<((Entry, Entry), (u32, u32, u64), Journal), AllocError>
-    requires setup { setup.now ≡ N.setup }
-    requires programs { N.programs ≡ tried_program ∷ [] }
-    requires desks { desks.now ≡ N.desks }
-    requires fresh { AreFresh desks.now books.items }
+) -> Result<(u32, Closed), AllocError>
+    requires setup { setup ≡ N.setup }
+    requires pair { IsPair N.setup }
+    requires programs { N.programs ≡ tried_programs }
+    requires desks { desks ≡ N.desks }
+    requires fresh { AreFresh desks books.items }
     requires len { length books.items ≡ desk_count }
 {
-    setup.keeps_ranges();
-    let (slots, lines, none, each) = yard_packs::<N>(desks, books);
-    let held = HeldYard::new(alloc, slots, lines, none)?;
-    let ready = yard_ready(desks, held)?;
-    Ok(made_to_sleep(desks, ready, Slots::of(each)))
+    let mut still = held::<N>(alloc, setup, desks, books)?;
+    let napped = napped(&mut still);
+    let blocked = still.blocked();
+    let closed = still.close();
+    napped?;
+    Ok((blocked, closed))
 }
 
 #[test]
-fn a_thread_is_made_and_sleeps(rt: HostRuntime) -> Result<(), Fail> {
+fn the_first_that_is_due_is_woken(rt: HostRuntime) -> Result<(), Fail> {
     let alloc = rt.alloc();
-    let setup = Setup::build(alloc, &[[1, 1000]], &[], &[[0; 6]], 8, 1)?;
+    let setup = pair(alloc)?;
     let (desks, books) = DeskSet::new(alloc)?;
-    let (entries, told, journal) = tried_yard::<Brand>(alloc, &setup, &desks, books)?;
-    assert_eq!(rt; (entries.0.step.moment, entries.0.answer), (0, Answer::Yes));
-    assert_eq!(rt; (entries.1.step.moment, entries.1.answer), (5, Answer::Yes));
-    assert_eq!(rt; told, (1, 1, 5));
-    assert_eq!(rt; journal.len(), 2);
+    let (blocked, closed) = tried::<Brand>(alloc, setup, desks, books)?;
+    assert_eq!(rt; blocked, 0);
     assert_eq!(rt;
-        (journal.line(0).mark, journal.line(1).mark),
-        (None, Some(7))
+        (closed.made, closed.queued, closed.blocked, closed.ended),
+        (2, 0, 0, 2)
     );
-    assert_eq!(rt; (journal.line(0).entry, journal.line(1).entry), entries);
+    let answers = [
+        Answer::Yes,
+        Answer::Yes,
+        Answer::Yes,
+        Answer::Yes,
+        Answer::Left(2),
+        Answer::Yes,
+        Answer::Yes,
+        Answer::Yes,
+        Answer::Yes,
+    ];
+    assert!(rt; tells(&closed, 2, &answers));
+    assert!(rt; woken(&closed));
     Ok(())
+}
+
+// Whether thread 3 was woken at 7000, and then thread 7 at 7000.
+fn woken(closed: &Closed) -> bool {
+    match closed.journals.get(2) {
+        Some(journal) if journal.len() == 9 => {
+            let (first, second) = (journal.line(5).entry, journal.line(6).entry);
+            first.step.moment == 7000
+                && first.step.act == (Act::Wake { name: 3 })
+                && second.step.moment == 7000
+                && second.step.act == (Act::Wake { name: 7 })
+        }
+        _ => false,
+    }
 }

@@ -18,13 +18,13 @@ enter-ticket-requires-clause-numbers g c =
     (record { cluster = g.K.Cluster.view c.self.inside.queue.value; journal = c.self.inside.journal; slots = c.self.inside.slots; lines = c.self.inside.lines; others = c.self.inside.others })
     c.self.invariant (subst (λ q. IsCluster (g.K.Cluster.view q)) c.deref.ensures c.keeps.ensures) (omega (arith, c.len.ensures.limit)))
 
-module _ (g : given.Over) (c : goal.After-push g) where
+module _ (g : given.Over) (c : goal.After-add_line g) where
   -- the held cluster before, and after
   abbrev was : HeldParts
   was = record { cluster = g.K.Cluster.view c.self.inside.queue.value; journal = c.self.inside.journal; slots = c.self.inside.slots; lines = c.self.inside.lines; others = c.self.inside.others }
 
   abbrev is : HeldParts
-  is = record { cluster = g.K.Cluster.view c.enter-ticket.new.self; journal = c.push.new.self; slots = c.take_in.new.self; lines = c.burn.new.self; others = c.join.new.self }
+  is = record { cluster = g.K.Cluster.view c.enter-ticket.new.self; journal = c.add_line.new.journal; slots = c.take_in.new.self; lines = c.burn.new.self; others = c.join.new.self }
 
   abbrev made : Entry
   made = record { step = record { moment = c.max-moment.result; actor = c.args.actor; act = acts.Enter g.row.C c.args.head }; answer = answers.Pri c.enter-ticket.result.pri; thread = Some c.facts-facts.result }
@@ -45,7 +45,7 @@ module _ (g : given.Over) (c : goal.After-push g) where
       let more = one_more g.N.RunName.setup g.N.RunName.programs g.N.RunName.desks g.row.C was k c.args.r c.args.head c.args.now in
       same_parts is (stepped (unmarked made) (entered_in was.cluster c.args.r c.args.head c.args.now c.enter-ticket.result.slot) was)
       (c.enter-ticket.ensures.view ∙ (λ i. entered_in (g.K.Cluster.view (c.deref_mut.ensures.value i)) (c.into_parts-thread.ensures.thread i) c.args.head c.args.now c.enter-ticket.result.slot))
-      c.push.ensures
+      c.add_line.ensures
       (c.take_in.ensures.book ∙ ap (λ (m : ℕ). record was.slots { parked = m }) (omega (arith, c.take-own.ensures.one, k.parked, more)))
       (c.burn.ensures.book ∙ ap (λ (m : ℕ). record was.lines { minted = was.lines.minted - m }) c.requires.line.1)
       (c.join.ensures ∙ (λ i. joined (k.others_are i) (c.take-own.ensures.left i)) ∙ joined_more g.row.C n ∙ (λ i. amounts_but (sym k.number_is i) 0 (sym more i)))

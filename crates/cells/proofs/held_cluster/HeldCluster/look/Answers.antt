@@ -9,13 +9,13 @@ use Rattle.cells.proofs.Asking.{looks_keeps, paid_parts}
 use Rattle.cells.proofs.held_cluster.HeldCluster.look.Given as given
 use Rattle.cells.proofs.held_cluster.HeldCluster.look.Goals as goal
 
-module _ (g : given.Over) (c : goal.After-push g) where
+module _ (g : given.Over) (c : goal.After-add_line g) where
   -- the held cluster before, and after
   abbrev was : HeldParts
   was = record { cluster = g.K.Cluster.view c.self.inside.queue.value; journal = c.self.inside.journal; slots = c.self.inside.slots; lines = c.self.inside.lines; others = c.self.inside.others }
 
   abbrev is : HeldParts
-  is = record { cluster = g.K.Cluster.view c.load_of-value.new.queue; journal = c.push.new.self; slots = c.self.inside.slots; lines = c.burn.new.self; others = c.self.inside.others }
+  is = record { cluster = g.K.Cluster.view c.load_of-value.new.queue; journal = c.add_line.new.journal; slots = c.self.inside.slots; lines = c.burn.new.self; others = c.self.inside.others }
 
   abbrev made : Entry
   made = record { step = record { moment = c.max-moment.result; actor = c.args.actor; act = acts.Look g.row.C }; answer = c.answer_of_load.result; thread = None }
@@ -38,7 +38,7 @@ module _ (g : given.Over) (c : goal.After-push g) where
   fields =
       paid_parts g.N.RunName.setup g.N.RunName.programs g.N.RunName.desks g.row.C was c.self.invariant line is (after_touch was.cluster c.args.now)
       (c.load_of-value.ensures.view ∙ ap (λ q. after_touch (g.K.Cluster.view q) c.args.now) c.deref_mut.ensures.value) refl refl
-      c.push.ensures
+      c.add_line.ensures
       refl
       (c.burn.ensures.book ∙ ap (λ (m : ℕ). record was.lines { minted = was.lines.minted - m }) c.requires.line.1)
       refl

@@ -41,7 +41,7 @@ module _ (g : given.Over) (c : goal.After-released-value g) where
   was = record { cluster = g.K.Cluster.view c.self.inside.queue.value; journal = c.self.inside.journal; slots = c.self.inside.slots; lines = c.self.inside.lines; others = c.self.inside.others }
 
   abbrev is : HeldParts
-  is = record { cluster = g.K.Cluster.view c.offered-thread.new.queue; journal = c.push.new.self; slots = c.released-value.new.slots; lines = c.burn.new.self; others = c.released-value.new.others }
+  is = record { cluster = g.K.Cluster.view c.offered-thread.new.queue; journal = c.add_line.new.journal; slots = c.released-value.new.slots; lines = c.burn.new.self; others = c.released-value.new.others }
 
   abbrev made : Entry
   made = record { step = record { moment = c.max-moment.result; actor = c.args.actor; act = acts.Offer g.row.C }; answer = c.answer_of.result; thread = c.facts_in.result }
@@ -77,7 +77,7 @@ module _ (g : given.Over) (c : goal.After-released-value g) where
       let count : was.slots.parked - left_of c.offered-thread.result ≡ length (after_offer was.cluster c.args.to c.args.now).flat.entries = fewer ∙ ap (λ (v : ClusterView). length v.flat.entries) view in
       same_parts is (stepped (unmarked made) (after_offer was.cluster c.args.to c.args.now) was)
       view
-      c.push.ensures
+      c.add_line.ensures
       (c.released-value.ensures.slots ∙ ap (λ (m : ℕ). record was.slots { parked = m }) count)
       (c.burn.ensures.book ∙ ap (λ (m : ℕ). record was.lines { minted = was.lines.minted - m }) c.requires.line.1)
       (c.released-value.ensures.others ∙ (λ i. amounts_but (sym ((offering_place was.cluster c.args.to c.args.now).1 ∙ k.number_is) i) 0 (count i)))
