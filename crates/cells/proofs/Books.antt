@@ -1,5 +1,5 @@
 -- The last of the fresh books of the first desks.
-use Rattle.std.proofs.Common.{◌≡◌, List, [], ◌∷◌, ◌++◌, length, Option, Some, None, refl, sym, ap, ◌∙◌, subst, append-nil, arith}
+use Rattle.std.proofs.Common.{◌≡◌, List, [], ◌∷◌, ◌++◌, drop, get_or, length, Option, Some, None, refl, sym, ap, ◌∙◌, subst, append-nil, arith}
 use Rattle.std.specs.Prelude.{IfSome, option_to_list}
 use Rattle.rights.specs.Values.{Account, DeskId}
 use Rattle.cells.specs.Desks.{AreFresh, StandsAt, fresh_book}
@@ -11,14 +11,14 @@ pub record LastFresh (desks : List DeskId) (books : List Account) (last : Accoun
   pub book : last ≡ fresh_book last.desk
 
 pub last_fresh : (desks : List DeskId) (books : List Account) (last : Account) → AreFresh desks (books ++ last ∷ []) → LastFresh desks books last
-last_fresh [] [] last e = absurd (grind (arith, e))
-last_fresh [] (b ∷ bs) last e = absurd (grind (arith, e))
+last_fresh [] [] last e = absurd (omega (arith, ap length e))
+last_fresh [] (b ∷ bs) last e = absurd (omega (arith, ap length e))
 last_fresh (d ∷ ds) [] last e =
-    let is : last ≡ fresh_book d = grind (arith, e) in
+    let is : last ≡ fresh_book d = ap (λ xs. get_or xs 0 last) e in
     record { rest = refl; desk = ap (λ (b : Account). Some b.desk) (sym is); book = is ∙ ap (λ (b : Account). fresh_book b.desk) (sym is) }
 last_fresh (d ∷ ds) (b ∷ bs) last e =
-    let first : b ≡ fresh_book d = grind (arith, e) in
-    let others : AreFresh ds (bs ++ last ∷ []) = grind (arith, e) in
+    let first : b ≡ fresh_book d = ap (λ xs. get_or xs 0 b) e in
+    let others : AreFresh ds (bs ++ last ∷ []) = ap (drop 1) e in
     let more = last_fresh ds bs last others in
     record { rest = λ i. first i ∷ more.rest i; desk = more.desk; book = more.book }
 

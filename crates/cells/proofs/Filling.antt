@@ -1,6 +1,6 @@
 -- Eight places that are new, each for its number.
-use Rattle.std.proofs.Common.{false, ◌≡◌, ℕ, ◌≤◌, List, [], ◌∷◌, Option, Some, is_some, map, nat_lt, refl, slice_index_or, arith, suc, zero}
-use Rattle.std.proofs.lemmas.Bool.Decides.{nat_tests}
+use Rattle.std.proofs.Common.{false, ◌≡◌, ℕ, ◌≤◌, List, [], ◌∷◌, Option, Some, is_some, map, nat_lt, refl, slice_index_or, sym, arith, suc, zero}
+use Rattle.std.proofs.lemmas.Bool.{le-ltb}
 use Rattle.flat_policy.specs.Policy.Setup.{SetupParts, cluster_count}
 use Rattle.cells.specs.Held.{HeldParts}
 use Rattle.cells.specs.Fresh.{AreNewPlaces, IsNewPlace}
@@ -9,7 +9,7 @@ use Rattle.cells.specs.Stills.{held_at}
 
 -- a place past the eighth is not below so many clusters
 past_all : (n c : ℕ) → n ≤ 8 → false ≡ nat_lt (suc (suc (suc (suc (suc (suc (suc (suc c)))))))) n
-past_all n c few = grind (arith, nat_tests)
+past_all n c few = sym (le-ltb (suc (suc (suc (suc (suc (suc (suc (suc c)))))))) n (omega (arith, few)))
 
 pub new_places : (s : SetupParts) (p0 p1 p2 p3 p4 p5 p6 p7 : Option HeldParts) → cluster_count s ≤ 8
     → IsNewPlace s 0 p0 → IsNewPlace s 1 p1 → IsNewPlace s 2 p2 → IsNewPlace s 3 p3 → IsNewPlace s 4 p4 → IsNewPlace s 5 p5 → IsNewPlace s 6 p6 → IsNewPlace s 7 p7

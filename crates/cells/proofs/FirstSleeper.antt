@@ -2,9 +2,10 @@
 use Rattle.std.proofs.Common.{◌≡◌, ℕ, zero, suc, ◌<◌, ◌≤◌, ◌==◌, ◌&&◌, nat_le, nat_lt, Bool, true, false, not, List, [], ◌∷◌, length, map, get_or, find, Option, Some, None, option_and_then, refl, sym, ap, ◌∙◌, subst, inl, inr, arith}
 use Rattle.std.proofs.Math.ListN as listn
 use Rattle.std.specs.List.{IsFirstBest, list_any, remove}
-use Rattle.std.proofs.lemmas.Bool.{cases_Bool, cond-false, cond-true, not-true, or_from, or_left, or_parts, or_right}
+use Rattle.std.proofs.lemmas.Bool.{cases_Bool, cond-false, cond-true, le-leb, lt-leb, not-true, or_from, or_left, or_parts, or_right}
 use Rattle.std.proofs.lemmas.Bool.Decides.{nat_tests}
 use Rattle.std.proofs.lemmas.List.{get_or-map, length-map}
+use Rattle.std.proofs.lemmas.Option.{none-some, same_Some}
 use Rattle.flat_policy.specs.Policy.Unpreceded.{is_preceded, unpreceded}
 use Rattle.flat_policy.specs.Runs.Histories.{DueSleeper, RunYard, first_sleeper, wakes_before, where_true, without_first}
 use Rattle.cells.specs.Sleepers.{sleeper_of}
@@ -59,10 +60,10 @@ first_at {X} f (x ∷ xs) b h =
     }
 
 finds_passing : {X : Type 0} (p : X → Bool) (xs : List X) (x : X) → find p xs ≡ Some x → p x ≡ true
-finds_passing p [] x h = grind (arith, h)
+finds_passing p [] x h = absurd (none-some x h)
 finds_passing p (y ∷ ys) x h =
     elim (cases_Bool (p y)) [
-      | inl e ↦ (let same : y ≡ x = grind (arith, sym (cond-true (p y) (Some y) (find p ys) e) ∙ h) in ap p (sym same) ∙ e)
+      | inl e ↦ (let same : y ≡ x = same_Some y x (sym (cond-true (p y) (Some y) (find p ys) e) ∙ h) in ap p (sym same) ∙ e)
       | inr e ↦ finds_passing p ys x (sym (cond-false (p y) (Some y) (find p ys) e) ∙ h)
     ]
 
@@ -71,7 +72,7 @@ none_sooner moment w [] late h = refl
 none_sooner moment w (v ∷ ws) late h =
     let parts = or_parts (wakes_before v w) (is_preceded wakes_before ws w) h in
     let least = (not_before v w parts.0).0 in
-    or_from (nat_le v.due moment) (list_any (λ (u : DueSleeper). nat_le u.due moment) ws) (grind (arith, nat_tests, late, least)) (none_sooner moment w ws late parts.1)
+    or_from (nat_le v.due moment) (list_any (λ (u : DueSleeper). nat_le u.due moment) ws) (lt-leb v.due moment (omega (arith, late, least))) (none_sooner moment w ws late parts.1)
 
 -- where the one to be woken first is not due, none is
 pub none_is_due : (moment : ℕ) (w : DueSleeper) (ws : List DueSleeper) → unpreceded wakes_before ws ≡ Some w → moment < w.due → list_any (λ (v : DueSleeper). nat_le v.due moment) ws ≡ false
@@ -97,18 +98,18 @@ others_left f xs i at = removed f xs i ∙ at.others
 
 -- what no member passes, the one that is found does not
 found_fails : (q p : DueSleeper → Bool) (ws : List DueSleeper) (w : DueSleeper) → list_any q ws ≡ false → find p ws ≡ Some w → q w ≡ false
-found_fails q p [] w none h = absurd (grind (arith, h))
+found_fails q p [] w none h = absurd (none-some w h)
 found_fails q p (v ∷ ws) w none h =
     let parts = or_parts (q v) (list_any q ws) none in
     elim (cases_Bool (p v)) [
-      | inl e ↦ (let same : v ≡ w = grind (arith, sym (cond-true (p v) (Some v) (find p ws) e) ∙ h) in ap q (sym same) ∙ parts.0)
+      | inl e ↦ (let same : v ≡ w = same_Some v w (sym (cond-true (p v) (Some v) (find p ws) e) ∙ h) in ap q (sym same) ∙ parts.0)
       | inr e ↦ found_fails q p ws w parts.1 (sym (cond-false (p v) (Some v) (find p ws) e) ∙ h)
     ]
 
 -- the one that is woken where it is due: the first, and none where none is due
 pub due_first_is : (y : RunYard) (now : ℕ) (w : DueSleeper) → first_sleeper y ≡ Some w → w.due ≤ now → due_first y now ≡ Some w
 due_first_is y now w first due =
-    let now_due : nat_le w.due now ≡ true = grind (arith, nat_tests, due) in
+    let now_due : nat_le w.due now ≡ true = le-leb w.due now due in
     ap (option_and_then (λ (v : DueSleeper). where_true (nat_le v.due now) v)) first ∙ ap (λ b. where_true b w) now_due
 
 due_by : (y : RunYard) (i now : ℕ) → IsDueAt y.blocked i now → (o : Option DueSleeper) → first_sleeper y ≡ o → due_first y now ≡ first_sleeper y

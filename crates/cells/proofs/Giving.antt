@@ -1,5 +1,6 @@
 -- Held clusters that are the same but for a part of each.
-use Rattle.std.proofs.Common.{◌≡◌, ℕ, zero, suc, Bool, if◌then◌else◌, nat_lt, List, [], ◌∷◌, map, is_some, Option, Some, None, refl, sym, ap, ◌∙◌, subst, arith}
+use Rattle.std.proofs.Common.{◌≡◌, ℕ, zero, suc, Bool, if◌then◌else◌, nat_lt, List, [], ◌∷◌, map, is_some, Option, Some, None, refl, sym, ap, ◌∙◌, subst}
+use Rattle.std.proofs.lemmas.Option.{none-some}
 use Rattle.sched_base.specs.declared.Entry.{Entry}
 use Rattle.sched_base.specs.declared.Facts.{Facts}
 use Rattle.flat_policy.specs.Policy.Setup.{SetupParts}
@@ -13,7 +14,7 @@ use Rattle.cells.proofs.Placing.{filled_is}
 
 -- no places are the same
 pub but_none : (change : ℕ → HeldParts → HeldParts) → AreBut change [] []
-but_none change = record { each = λ c h at. absurd (grind (arith, at)); none = λ c at. refl }
+but_none change = record { each = λ c h at. absurd (none-some h at); none = λ c at. refl }
 
 module _ (change : ℕ → HeldParts → HeldParts) (o n : Option HeldParts) (os ns : List (Option HeldParts)) (b : IsBut change o n) (bs : AreBut change os ns) where
   each_more : (c : ℕ) (h : HeldParts) → held_at (o ∷ os) c ≡ Some h → (k : ℕ) × (held_at (n ∷ ns) c ≡ Some (change k h))

@@ -1,6 +1,6 @@
 -- A thread that leaves a held cluster: the queue and the view after it, and what holds of it.
 use Rattle.std.proofs.Common.{◌≡◌, ◌==◌, not, true, List, Option, Some, None, refl}
-use Rattle.std.specs.Prelude.{IfSome}
+use Rattle.std.specs.Prelude.{IfSome, is_none}
 use Rattle.sched_base.specs.declared.Facts.{Facts}
 use Rattle.flat_policy.specs.Policy.Clusters.{ClusterView, without_some}
 use Rattle.flat_policy.specs.Policy.ClusterSteps.{facts_of, got}
@@ -8,7 +8,7 @@ use Rattle.flat_policy.specs.Policy.Queue.{Flat, Queued}
 use Rattle.flat_policy.specs.Policy.WellFormed.{EachQueued}
 use Rattle.flat_policy.proofs.After as after
 use Rattle.flat_policy.proofs.Parts.{each_filter}
-use Rattle.cells.specs.Held.{answer_told}
+use Rattle.cells.specs.Held.{answer_told, gives_none}
 
 -- the queue after an entry left is the one given, and setup and number stay
 pub without_some_flat : (o : Option Queued) (s : Flat) (v : ClusterView) → (without_some o s v).flat ≡ s
@@ -23,6 +23,11 @@ without_some_place (Some e) s v = (refl, refl)
 pub got_is : (o : Option Queued) → answer_told true (facts_of o) ≡ got o
 got_is None = refl
 got_is (Some e) = refl
+
+-- and whether there was none
+pub got_none : (o : Option Queued) → is_none (facts_of o) ≡ gives_none (got o)
+got_none None = refl
+got_none (Some e) = refl
 
 -- what holds of each entry holds of those that remain
 pub left_each : (P : Queued → Type 0) (o : Option Queued) (es : List Queued) → EachQueued P es → EachQueued P (after.without_some o es)

@@ -9,6 +9,7 @@ mod Giving
 mod Keeping
 mod Leaving
 mod MostMinted
+mod Nobody
 mod Numbers
 mod Offering
 mod Placing

@@ -1,6 +1,7 @@
 -- At most how many slot rights are minted after a thread was made, and after line rights were.
 use Rattle.std.proofs.Common.{◌≡◌, ℕ, zero, suc, ◌+◌, ◌-◌, ◌<◌, ◌≤◌, Bool, false, is_some, if◌then◌else◌, nat_lt, List, length, Option, Some, None, unwrap_or, refl, sym, ap, ◌∙◌, arith}
 use Rattle.std.proofs.lemmas.List.{length_push}
+use Rattle.std.proofs.lemmas.Option.{none-some}
 use Rattle.sched_base.specs.Limits.{most_threads}
 use Rattle.flat_policy.specs.declared.journal.Line.{Line}
 use Rattle.sched_base.specs.declared.Entry.{Entry}
@@ -18,7 +19,7 @@ use Rattle.cells.proofs.Placing.{filled_is}
 -- each held cluster comes from one that was there, with so many more slot rights minted
 module _ (change : ℕ → HeldParts → HeldParts) (more : ℕ) (rises : (n : ℕ) (h : HeldParts) → (change n h).slots.minted ≡ h.slots.minted + more) (os ns : List (Option HeldParts)) (but : AreBut change os ns) where
   came_from : (k c : ℕ) (h : HeldParts) (o : Option HeldParts) → ((g : HeldParts) → held_at os c ≡ Some g → g.slots.minted ≤ k) → held_at os c ≡ o → held_at ns c ≡ Some h → h.slots.minted ≤ k + more
-  came_from k c h None few was is = absurd (grind (arith, sym (but.none c was) ∙ is))
+  came_from k c h None few was is = absurd (none-some h (sym (but.none c was) ∙ is))
   came_from k c h (Some g) few was is =
       let there = but.each c g was in
       let same : h ≡ change there.0 g = ap (λ (o : Option HeldParts). unwrap_or o h) (sym is ∙ there.1) in
@@ -30,7 +31,7 @@ module _ (change : ℕ → HeldParts → HeldParts) (more : ℕ) (rises : (n : �
   -- a place that is not filled was not
   was_none : (c : ℕ) (o : Option HeldParts) → held_at os c ≡ o → held_at ns c ≡ None → held_at os c ≡ None
   was_none c None was is = was
-  was_none c (Some g) was is = absurd (grind (arith, sym is ∙ (but.each c g was).1))
+  was_none c (Some g) was is = absurd (none-some _ (sym is ∙ (but.each c g was).1))
 
 -- what is left ready for a place
 left_then : (hs : List (Option HeldParts)) (a : Amounts) (c : ℕ) → c < 8 → left_in c (stock_after hs a) ≡ stock_left (held_at hs c) (left_in c a)

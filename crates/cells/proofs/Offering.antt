@@ -1,6 +1,6 @@
 -- Offering from a held cluster: the step that its line makes, what it keeps, and the thread that leaves.
 use Rattle.std.proofs.Common.{◌≡◌, ◌≢◌, ℕ, ◌<◌, ◌≤◌, ◌==◌, nat_lt, ◌&&◌, not, Bool, true, List, None, refl, sym, ap, ◌∙◌, subst, arith}
-use Rattle.std.specs.Prelude.{IfSome}
+use Rattle.std.specs.Prelude.{IfSome, is_none}
 use Rattle.std.proofs.lemmas.Bool.{and_from, eq-eqb, lt-ltb, ne_eqb}
 use Rattle.rights.specs.Values.{DeskId}
 use Rattle.sched_base.specs.Limits.{moment_limit}
@@ -17,9 +17,9 @@ use Rattle.flat_policy.specs.Runs.Worker.{Program}
 use Rattle.flat_policy.proofs.Entries.{each_member}
 use Rattle.flat_policy.proofs.Kept.{after_offer_entries, offered_stands}
 use Rattle.cells.specs.Courses.{OnCourse}
-use Rattle.cells.specs.Held.{HeldParts, Keeps, entry_of, offer_entry, offering_at, stepped, unmarked}
+use Rattle.cells.specs.Held.{HeldParts, Keeps, entry_of, gives_none, offer_entry, offering_at, stepped, unmarked}
 use Rattle.cells.proofs.Keeping.{kept_place, stepped_keeps}
-use Rattle.cells.proofs.Leaving.{left_each, of_facts, without_some_flat, without_some_place}
+use Rattle.cells.proofs.Leaving.{got_none, left_each, of_facts, without_some_flat, without_some_place}
 use Rattle.cells.proofs.Stepping.{place_step}
 
 offer_step_home : (setup : SetupParts) (c : ℕ) (s : Flat) (moment actor : ℕ) → c < cluster_count setup → moment < moment_limit → actor < actor_count setup → s.last ≤ moment → home_of setup actor ≢ c
@@ -43,6 +43,10 @@ offering_flat v to now = without_some_flat (offer_of v to) (flat_after_offer (mo
 
 pub offering_place : (v : ClusterView) (to now : ℕ) → ((after_offer v to now).setup ≡ v.setup) × ((after_offer v to now).number ≡ v.number)
 offering_place v to now = without_some_place (offer_of v to) (flat_after_offer (moment_at v now) v.flat (offer_of v to)) v
+
+-- the answer tells whether no thread leaves
+pub offering_none : (v : ClusterView) (to now : ℕ) → is_none (offering_at v to now).thread ≡ gives_none (offering_at v to now).answer
+offering_none v to now = got_none (offer_of v to)
 
 -- what holds of each entry holds of those that remain
 pub offering_each : (P : Queued → Type 0) (v : ClusterView) (to now : ℕ) → EachQueued P v.flat.entries → EachQueued P (offering_at v to now).flat.entries

@@ -1,6 +1,7 @@
 -- Places: a step at the place of a number, and which places are filled after it.
-use Rattle.std.proofs.Common.{◌≡◌, ℕ, zero, suc, ◌<◌, Bool, false, List, [], ◌∷◌, map, get_or, set, is_some, IsSome, Option, Some, None, unwrap_or, slice_set, refl, sym, ap, ◌∙◌, subst, arith}
-use Rattle.std.proofs.lemmas.Bool.{lt-ltb}
+use Rattle.std.proofs.Common.{◌≡◌, ℕ, zero, suc, ◌<◌, Bool, false, List, [], ◌∷◌, map, get_or, set, is_some, IsSome, Option, Some, None, unwrap_or, slice_set, refl, sym, ap, ◌∙◌, subst}
+use Rattle.std.proofs.lemmas.Bool.{false≢true, lt-ltb}
+use Rattle.std.proofs.lemmas.Option.{none-some}
 use Rattle.rights.specs.Values.{DeskId}
 use Rattle.flat_policy.specs.Policy.Setup.{SetupParts}
 use Rattle.flat_policy.specs.Runs.Worker.{Program}
@@ -44,13 +45,13 @@ filled_at n c hs filled there = sym (filled_is hs c) ∙ filled.below c ∙ lt-l
 
 -- the places that are filled stay so where one that is filled gets another held cluster
 filled_again : (hs : List (Option HeldParts)) (c : ℕ) (h x : HeldParts) → get_or hs c None ≡ Some h → map is_some (set hs c (Some x)) ≡ map is_some hs
-filled_again [] c h x at = absurd (grind (arith, at))
+filled_again [] c h x at = absurd (none-some h at)
 filled_again (o ∷ hs) zero h x at = ap (λ (b : Bool). b ∷ map is_some hs) (sym (ap is_some at))
 filled_again (o ∷ hs) (suc c) h x at = ap (λ (bs : List Bool). is_some o ∷ bs) (filled_again hs c h x at)
 
 step_fills : (n c : ℕ) (old new : List (Option HeldParts)) (Told : HeldParts → Type 0) (after : HeldParts → HeldParts) (o : Option HeldParts)
     → held_at old c ≡ o → IsSome o → HoldBelow n old → StepsAt c old new Told after → HoldBelow n new
-step_fills n c old new Told after None at there filled step = absurd (grind (arith, there))
+step_fills n c old new Told after None at there filled step = absurd (false≢true there)
 step_fills n c old new Told after (Some h) at there filled step =
     subst (AreFilled n) (sym (ap (map is_some) (step.leaves h at) ∙ filled_again old c h (after h) at)) filled
 
@@ -72,4 +73,4 @@ each_of_eight P o0 o1 o2 o3 o4 o5 o6 o7 p0 p1 p2 p3 p4 p5 p6 p7 (suc (suc (suc (
 each_of_eight P o0 o1 o2 o3 o4 o5 o6 o7 p0 p1 p2 p3 p4 p5 p6 p7 (suc (suc (suc (suc (suc zero))))) h at = p5 h at
 each_of_eight P o0 o1 o2 o3 o4 o5 o6 o7 p0 p1 p2 p3 p4 p5 p6 p7 (suc (suc (suc (suc (suc (suc zero)))))) h at = p6 h at
 each_of_eight P o0 o1 o2 o3 o4 o5 o6 o7 p0 p1 p2 p3 p4 p5 p6 p7 (suc (suc (suc (suc (suc (suc (suc zero))))))) h at = p7 h at
-each_of_eight P o0 o1 o2 o3 o4 o5 o6 o7 p0 p1 p2 p3 p4 p5 p6 p7 (suc (suc (suc (suc (suc (suc (suc (suc c)))))))) h at = absurd (grind (arith, at))
+each_of_eight P o0 o1 o2 o3 o4 o5 o6 o7 p0 p1 p2 p3 p4 p5 p6 p7 (suc (suc (suc (suc (suc (suc (suc (suc c)))))))) h at = absurd (none-some h at)

@@ -1,6 +1,6 @@
 -- Selecting from a held cluster: the step that its line makes, what it keeps, and the thread that leaves.
 use Rattle.std.proofs.Common.{◌≡◌, ℕ, ◌<◌, ◌≤◌, Bool, true, false, List, cond, None, refl, sym, ap, subst, arith}
-use Rattle.std.specs.Prelude.{IfSome}
+use Rattle.std.specs.Prelude.{IfSome, is_none}
 use Rattle.std.proofs.lemmas.Bool.{cond_both, eq-eqb}
 use Rattle.rights.specs.Values.{DeskId}
 use Rattle.sched_base.specs.Limits.{moment_limit}
@@ -18,9 +18,9 @@ use Rattle.flat_policy.specs.Runs.Worker.{Program}
 use Rattle.flat_policy.proofs.Entries.{each_member}
 use Rattle.flat_policy.proofs.Kept.{pick_stands, selected_entries}
 use Rattle.cells.specs.Courses.{OnCourse}
-use Rattle.cells.specs.Held.{HeldParts, Keeps, after_selecting, answer_told, entry_of, select_entry, selecting_at, stepped, unmarked}
+use Rattle.cells.specs.Held.{HeldParts, Keeps, after_selecting, answer_told, entry_of, gives_none, select_entry, selecting_at, stepped, unmarked}
 use Rattle.cells.proofs.Keeping.{kept_place, stepped_keeps}
-use Rattle.cells.proofs.Leaving.{got_is, left_each, of_facts, without_some_flat, without_some_place}
+use Rattle.cells.proofs.Leaving.{got_is, got_none, left_each, of_facts, without_some_flat, without_some_place}
 use Rattle.cells.proofs.Stepping.{place_step}
 
 pub select_step : (setup : SetupParts) (c : ℕ) (s : Flat) (moment actor : ℕ) → c < cluster_count setup → moment < moment_limit → actor < actor_count setup → s.last ≤ moment → home_of setup actor ≡ c
@@ -58,6 +58,12 @@ told_by false on off p q = q
 -- the answer by the thread that left
 pub selecting_answer : (v : ClusterView) (now : ℕ) → answer_told v.flat.on (selecting_at v now).thread ≡ (selecting_at v now).answer
 selecting_answer v now = told_by v.flat.on (when_on v now) (when_off v now) (got_is (pick_of v now)) refl
+
+-- and whether there is none
+pub selecting_none : (v : ClusterView) (now : ℕ) → is_none (selecting_at v now).thread ≡ gives_none (selecting_at v now).answer
+selecting_none v now =
+    cond_both v.flat.on (when_on v now) (when_off v now) (λ (e : Event). is_none e.thread ≡ gives_none e.answer)
+    (λ on. got_none (pick_of v now)) (λ off. refl)
 
 -- what holds of each entry holds of those that remain
 pub selecting_each : (P : Queued → Type 0) (v : ClusterView) (now : ℕ) → EachQueued P v.flat.entries → EachQueued P (selecting_at v now).flat.entries

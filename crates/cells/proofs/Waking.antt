@@ -1,8 +1,8 @@
 -- Waking a thread of a held yard, and counting the blocked ones: the step that its line makes, and what it keeps.
 use Rattle.std.proofs.Common.{◌≡◌, ℕ, ◌+◌, ◌<◌, ◌≤◌, ◌==◌, ◌^◌, nat_le, not, Bool, true, false, List, [], ◌∷◌, find, length, Some, None, option_and_then, refl, sym, ap, ◌∙◌, subst, inl, inr, arith}
-use Rattle.std.proofs.lemmas.Bool.{and_from, cases_Bool, cond-false, cond-true, eq-eqb, lt-ltb}
-use Rattle.std.proofs.lemmas.Bool.Decides.{nat_tests}
+use Rattle.std.proofs.lemmas.Bool.{and_from, cases_Bool, cond-false, cond-true, eq-eqb, le-leb, lt-ltb}
 use Rattle.std.proofs.lemmas.List.Edits.{length-remove}
+use Rattle.std.proofs.lemmas.Option.{none-some, same_Some}
 use Rattle.rights.specs.Values.{DeskId}
 use Rattle.sched_base.specs.Facts.{rested}
 use Rattle.sched_base.specs.Limits.{moment_limit}
@@ -23,7 +23,7 @@ wake_step : (setup : SetupParts) (y : RunYard) (w : DueSleeper) (moment actor : 
     → YStep setup y (unmarked (wake_entry actor y moment (Some w))) (waking_at y moment (Some w)).yard
 wake_step setup y w moment actor soon known named later first due =
     let event : YardEvent = waking_at y moment (Some w) in
-    let now_due : nat_le w.due moment ≡ true = grind (arith, nat_tests, due) in
+    let now_due : nat_le w.due moment ≡ true = le-leb w.due moment due in
     record {
       fits = record {
         step = fits_from setup (record { moment = moment; actor = actor; act = acts.Wake w.facts.name }) soon known refl (lt-ltb w.facts.name (2 ^ 32) named);
@@ -83,10 +83,10 @@ each_left P p (w ∷ ws) each =
     ]
 
 each_found : (P : DueSleeper → Type 0) (p : DueSleeper → Bool) (ws : List DueSleeper) (w : DueSleeper) → EachBlocked P ws → find p ws ≡ Some w → P w
-each_found P p [] w each h = absurd (grind (arith, h))
+each_found P p [] w each h = absurd (none-some w h)
 each_found P p (v ∷ ws) w each h =
     elim (cases_Bool (p v)) [
-      | inl e ↦ (let same : v ≡ w = grind (arith, sym (cond-true (p v) (Some v) (find p ws) e) ∙ h) in subst P same each.0)
+      | inl e ↦ (let same : v ≡ w = same_Some v w (sym (cond-true (p v) (Some v) (find p ws) e) ∙ h) in subst P same each.0)
       | inr e ↦ each_found P p ws w each.1 (sym (cond-false (p v) (Some v) (find p ws) e) ∙ h)
     ]
 

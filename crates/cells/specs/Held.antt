@@ -13,7 +13,6 @@ use Rattle.sched_base.specs.Limits.{most_threads}
 use Rattle.sched_base.specs.declared.Bucket.{Bucket}
 use Rattle.sched_base.specs.declared.Entry.{Entry}
 use Rattle.sched_base.specs.declared.Facts.{Facts}
-use Rattle.sched_base.specs.declared.Ticket.{Ticket}
 use Rattle.flat_policy.specs.declared.journal.Line.{Line}
 use Rattle.sched_base.specs.declared.Act.{Act}
 use Rattle.sched_base.specs.declared.Answer.{Answer}
@@ -139,6 +138,13 @@ answer_told false thread = answers.Off
 answer_told true None = answers.Empty
 answer_told true (Some t) = answers.Got t.name
 
+-- whether an answer tells that no thread is given: there was none to take, the cluster is off, or so many are left blocked
+abbrev pub gives_none : Answer → Bool
+gives_none answers.Empty = true
+gives_none answers.Off = true
+gives_none (answers.Left n) = true
+gives_none _ = false
+
 -- the answer that tells a load, or that the cluster is off
 abbrev pub answer_of_load : Option ℕ → Answer
 answer_of_load None = answers.Off
@@ -152,12 +158,3 @@ TellsPriority answer pri = answer ≡ answers.Pri pri
 pub record AreSmall (s : Flat) : Type 0 where
   pub arrival : s.next_arrival ≤ 2 ^ 50
   pub turn : s.next_turn ≤ 2 ^ 50
-
--- an actor's thread entered some held cluster of a run at its tail, and this was the entry
-pub record EnteredSome (setup : SetupParts) (programs : List Program) (desks : List DeskId) (c actor : ℕ) (t : Facts) (now : ℕ) (e : Entry) (ticket : Ticket) : Type 0 where
-  pub held : HeldParts
-  pub kept : Keeps setup programs desks c held
-  pub entry : e ≡ enter_entry c actor held.cluster t false now
-  pub cluster : ticket.cluster ≡ c
-  pub arrival : ticket.arrival ≡ held.cluster.flat.next_arrival
-  pub pri : TellsPriority e.answer ticket.pri

@@ -1,5 +1,5 @@
 -- Held values that are new, what making a thread and minting line rights leaves, and what the end tells.
-use Rattle.std.specs.Prelude.{List, None, Option, Some, [], flat_map, if◌then◌else◌, length, nat_lt, sum_by, ℕ, ◌*◌, ◌++◌, ◌+◌, ◌-◌, ◌<◌, ◌≡◌, ◌≤◌, ◌∷◌}
+use Rattle.std.specs.Prelude.{List, None, Option, Some, [], flat_map, if◌then◌else◌, length, nat_lt, sum_by, ℕ, ◌++◌, ◌+◌, ◌-◌, ◌<◌, ◌≡◌, ◌≤◌, ◌∷◌}
 use Rattle.sched_base.specs.Limits.{most_threads}
 use Rattle.sched_base.specs.declared.Entry.{Entry}
 use Rattle.sched_base.specs.declared.Facts.{Facts}

@@ -1,5 +1,5 @@
 -- The held values of a run together, without locks.
-use Rattle.std.specs.Prelude.{Bool, List, None, Option, Some, [], false, is_some, length, map, nat_lt, slice_index_or, slice_set, ℕ, ◌+◌, ◌<◌, ◌≡◌, ◌≤◌, ◌∷◌}
+use Rattle.std.specs.Prelude.{Bool, List, None, Option, Some, false, is_some, length, map, nat_lt, slice_index_or, slice_set, ℕ, ◌≡◌}
 use Rattle.rights.specs.Values.{DeskId}
 use Rattle.flat_policy.specs.Policy.Setup.{SetupParts, cluster_count}
 use Rattle.flat_policy.specs.Runs.Worker.{Program}

@@ -194,14 +194,14 @@ fn fill_in<K: Cluster, N: RunName, const C: usize>(
     ensures stock { IfOk result (λ _. stock.new ≡ ready_one C (cluster_count N.setup) stock.old) }
 {
     let mut two = FreshTwo::last_of(desks, books);
-    let none = stock.none(desks);
     if C >= setup.clusters() as usize {
         put_in(place, None);
         stock.add(desks, C, two.into_slots(desks));
         return Ok(());
     }
     stock.add(desks, C, two.no_slots(desks));
-    put_in(place, Some(new_held(alloc, setup, two, none)?));
+    let held = new_held(alloc, setup, two, stock.none(desks))?;
+    put_in(place, Some(held));
     Ok(())
 }
 

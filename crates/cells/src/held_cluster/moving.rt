@@ -1,11 +1,11 @@
 //! Steps that move a thread: it enters, is selected, or is offered to another cluster.
-ghost use Rattle.std.specs.Prelude.{◌≡◌, ◌≢◌, ◌<◌, ◌≤◌, ◌+◌, ◌-◌, IfSome};
+ghost use Rattle.std.specs.Prelude.{◌≡◌, ◌≢◌, ◌<◌, ◌≤◌, ◌+◌, ◌-◌, IfSome, is_none};
 ghost use Rattle.flat_policy.specs.Policy.Aim.{MayEnter};
 ghost use Rattle.flat_policy.specs.Policy.Clusters.{HasNumbers, SameRoom, after_offer, entered_in};
 ghost use Rattle.flat_policy.specs.Policy.Setup.{actor_count, cluster_count, home_of, migrates, steal_mask};
 ghost use Rattle.cells.specs.Courses.{Fits, OnCourse};
 ghost use Rattle.cells.specs.Desks.{StandsAt, line_desk, slot_desk};
-ghost use Rattle.cells.specs.Held.{TellsPriority, after_selecting, answer_told, enter_entry, left_of, offer_entry, offering_at, select_entry, selecting_at, stepped, unmarked};
+ghost use Rattle.cells.specs.Held.{TellsPriority, after_selecting, answer_told, enter_entry, gives_none, left_of, offer_entry, offering_at, select_entry, selecting_at, stepped, unmarked};
 ghost use Rattle.cells.specs.Packs.{amounts_but};
 
 use super::{HeldCluster, add_line};
@@ -91,6 +91,7 @@ impl<K: Cluster, N: RunName, const C: usize> HeldCluster<K, N, C> {
         ensures entry { result.entry ≡ select_entry actor self.old.cluster now }
         ensures held { self.new ≡ stepped (unmarked result.entry) (after_selecting self.old.cluster now) self.old }
         ensures value { result.value ≡ result.entry.thread }
+        ensures told { is_none result.value ≡ gives_none result.entry.answer }
         ensures course { IfSome result.value (OnCourse N.setup N.programs) }
     {
         self.queue.keeps();
@@ -115,7 +116,7 @@ impl<K: Cluster, N: RunName, const C: usize> HeldCluster<K, N, C> {
     }
 
     /// The thread that the cluster offers to the actor's home leaves, with its rights; none exactly where the home may
-    /// take no thread. `to` is the actor's home and another cluster, and `rebalance` and `mask` are those of the edge to
+    /// take no thread, and the entry's answer is then `Empty`. `to` is the actor's home and another cluster, and `rebalance` and `mask` are those of the edge to
     /// it, whether this cluster is on or off. The line right ends.
     pub fn offer(
         &mut self,
@@ -138,6 +139,7 @@ impl<K: Cluster, N: RunName, const C: usize> HeldCluster<K, N, C> {
         ensures entry { result.entry ≡ offer_entry C actor self.old.cluster to now }
         ensures held { self.new ≡ stepped (unmarked result.entry) (after_offer self.old.cluster to now) self.old }
         ensures value { result.value ≡ result.entry.thread }
+        ensures told { is_none result.value ≡ gives_none result.entry.answer }
         ensures course { IfSome result.value (OnCourse N.setup N.programs) }
     {
         self.queue.keeps();

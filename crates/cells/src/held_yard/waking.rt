@@ -1,11 +1,11 @@
 //! Waking: the thread that is due first leaves the yard.
-ghost use Rattle.std.specs.Prelude.{◌≡◌, ◌<◌, ◌≤◌, ◌+◌, ◌-◌, [], IfNone, IfSome, IsSome, None, Some, false, length, map, nat_le};
+ghost use Rattle.std.specs.Prelude.{◌≡◌, ◌<◌, ◌≤◌, ◌↔◌, [], IfNone, IfSome, IsNone, IsSome, None, Some, false, is_none, map, nat_le};
 ghost use Rattle.std.specs.List.{list_any};
 ghost use Rattle.flat_policy.specs.Policy.Setup.{actor_count};
 ghost use Rattle.flat_policy.specs.Runs.Histories.{DueSleeper, first_sleeper, wakes_before};
 ghost use Rattle.cells.specs.Courses.{OnCourse};
 ghost use Rattle.cells.specs.Desks.{StandsAt, yard_line_desk};
-ghost use Rattle.cells.specs.Held.{unmarked};
+ghost use Rattle.cells.specs.Held.{gives_none, unmarked};
 ghost use Rattle.cells.specs.Sleepers.{sleeper_of};
 ghost use Rattle.cells.specs.Waking.{IsDueAt, IsFirstAt};
 ghost use Rattle.cells.specs.Yards.{due_first, some_due, wake_entry, waking_at, woken_at, yard_moment, yard_stepped};
@@ -38,7 +38,8 @@ impl<N: RunName> HeldYard<N> {
         ensures held { self.new ≡ yard_stepped (unmarked result.entry) (waking_at self.old.yard (yard_moment self.old.yard now) (due_first self.old.yard (yard_moment self.old.yard now))).yard self.old }
         ensures value { result.value ≡ result.entry.thread }
         ensures course { IfSome result.value (OnCourse N.setup N.programs) }
-        ensures none { IfNone result.value (some_due self.old.yard (yard_moment self.old.yard now) ≡ false) }
+        ensures told { is_none result.value ≡ gives_none result.entry.answer }
+        ensures none { IsNone result.value ↔ (some_due self.old.yard (yard_moment self.old.yard now) ≡ false) }
     {
         self.keeps();
         let moment = now.max(self.last);
@@ -65,7 +66,8 @@ impl<N: RunName> HeldYard<N> {
         ensures held { self.new ≡ yard_stepped (unmarked result.entry) (waking_at self.old.yard (woken_at (first_sleeper self.old.yard) (yard_moment self.old.yard now)) (first_sleeper self.old.yard)).yard self.old }
         ensures value { result.value ≡ result.entry.thread }
         ensures course { IfSome result.value (OnCourse N.setup N.programs) }
-        ensures none { IfNone result.value (self.old.yard.blocked ≡ []) }
+        ensures told { is_none result.value ≡ gives_none result.entry.answer }
+        ensures none { IsNone result.value ↔ (self.old.yard.blocked ≡ []) }
     {
         self.keeps();
         let moment = now.max(self.last);

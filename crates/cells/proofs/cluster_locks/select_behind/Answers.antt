@@ -10,4 +10,5 @@ returns-clause-step g c =
     (record {
       entry = c.select.ensures.entry ∙ ap (λ (h : HeldParts). select_entry c.args.actor h.cluster c.args.now) (c.deref_mut.ensures.value ∙ sym c.deref.ensures);
       given = c.select.ensures.value;
+      told = c.select.ensures.told;
     })

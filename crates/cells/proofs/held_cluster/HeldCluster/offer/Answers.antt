@@ -1,5 +1,5 @@
 use Rattle.std.proofs.Common.{◌≡◌, ◌+◌, ◌-◌, ◌<◌, ℕ, Option, length, max, true, sym, ap, ◌∙◌, subst, arith}
-use Rattle.std.specs.Prelude.{IfSome}
+use Rattle.std.specs.Prelude.{IfSome, is_none}
 use Rattle.sched_base.specs.declared.Act.TheVariants as acts
 use Rattle.sched_base.specs.declared.Entry.{Entry}
 use Rattle.sched_base.specs.declared.Facts.{Facts}
@@ -7,11 +7,11 @@ use Rattle.flat_policy.specs.Policy.Clusters.{ClusterView, HasNumbers, IsCluster
 use Rattle.flat_policy.specs.Policy.Setup.{cluster_count}
 use Rattle.flat_policy.proofs.SoundParts.{home_within}
 use Rattle.cells.specs.Courses.{Fits, OnCourse}
-use Rattle.cells.specs.Held.{HeldParts, Keeps, answer_told, left_of, offer_entry, offering_at, stepped, unmarked}
+use Rattle.cells.specs.Held.{HeldParts, Keeps, answer_told, gives_none, left_of, offer_entry, offering_at, stepped, unmarked}
 use Rattle.cells.specs.Packs.{amounts_but}
 use Rattle.cells.proofs.Keeping.{kept_numbers, same_parts}
 use Rattle.cells.proofs.Leaving.{got_is, some_weaker}
-use Rattle.cells.proofs.Offering.{offering_one, offering_place, offers_keeps}
+use Rattle.cells.proofs.Offering.{offering_none, offering_one, offering_place, offers_keeps}
 use Rattle.cells.proofs.held_cluster.HeldCluster.offer.Given as given
 use Rattle.cells.proofs.held_cluster.HeldCluster.offer.Goals as goal
 
@@ -98,6 +98,10 @@ returns-clause-held g c = fields g c ∙ ap (λ (h : HeldParts). stepped (unmark
 
 pub returns-clause-entry : goal.returns-clause-entry
 returns-clause-entry g c = made_is g c ∙ ap (λ (h : HeldParts). offer_entry g.row.C c.args.actor h.cluster c.args.to c.args.now) c.self.view_is
+
+pub returns-clause-told : goal.returns-clause-told
+returns-clause-told g c =
+    ap is_none (c.released-value.ensures.value ∙ offered_is g c) ∙ offering_none (was g c).cluster c.args.to c.args.now ∙ sym (ap (λ (e : Entry). gives_none e.answer) (made_is g c))
 
 pub returns-clause-course : goal.returns-clause-course
 returns-clause-course g c =

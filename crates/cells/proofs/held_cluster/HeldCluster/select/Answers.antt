@@ -1,15 +1,15 @@
 use Rattle.std.proofs.Common.{◌≡◌, ◌+◌, ◌-◌, ℕ, Option, length, max, sym, ap, ◌∙◌, subst, arith}
-use Rattle.std.specs.Prelude.{IfSome}
+use Rattle.std.specs.Prelude.{IfSome, is_none}
 use Rattle.sched_base.specs.declared.Act.TheVariants as acts
 use Rattle.sched_base.specs.declared.Entry.{Entry}
 use Rattle.sched_base.specs.declared.Facts.{Facts}
 use Rattle.flat_policy.specs.Policy.Clusters.{ClusterView, HasNumbers, IsCluster, SameRoom, moment_at}
 use Rattle.cells.specs.Courses.{Fits, OnCourse}
-use Rattle.cells.specs.Held.{HeldParts, Keeps, after_selecting, answer_told, left_of, select_entry, selecting_at, stepped, unmarked}
+use Rattle.cells.specs.Held.{HeldParts, Keeps, after_selecting, answer_told, gives_none, left_of, select_entry, selecting_at, stepped, unmarked}
 use Rattle.cells.specs.Packs.{amounts_but}
 use Rattle.cells.proofs.Keeping.{kept_numbers, same_parts}
 use Rattle.cells.proofs.Leaving.{some_weaker}
-use Rattle.cells.proofs.Selecting.{selecting_answer, selecting_one, selecting_place, selects_keeps}
+use Rattle.cells.proofs.Selecting.{selecting_answer, selecting_none, selecting_one, selecting_place, selects_keeps}
 use Rattle.cells.proofs.held_cluster.HeldCluster.select.Given as given
 use Rattle.cells.proofs.held_cluster.HeldCluster.select.Goals as goal
 
@@ -91,6 +91,10 @@ returns-clause-held g c = fields g c ∙ ap (λ (h : HeldParts). stepped (unmark
 
 pub returns-clause-entry : goal.returns-clause-entry
 returns-clause-entry g c = made_is g c ∙ ap (λ (h : HeldParts). select_entry c.args.actor h.cluster c.args.now) c.self.view_is
+
+pub returns-clause-told : goal.returns-clause-told
+returns-clause-told g c =
+    ap is_none (c.released-value.ensures.value ∙ picked g c) ∙ selecting_none (was g c).cluster c.args.now ∙ sym (ap (λ (e : Entry). gives_none e.answer) (made_is g c))
 
 pub returns-clause-course : goal.returns-clause-course
 returns-clause-course g c =
