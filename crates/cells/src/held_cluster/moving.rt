@@ -116,8 +116,8 @@ impl<K: Cluster, N: RunName, const C: usize> HeldCluster<K, N, C> {
     }
 
     /// The thread that the cluster offers to the actor's home leaves, with its rights; none exactly where the home may
-    /// take no thread, and the entry's answer is then `Empty`. `to` is the actor's home and another cluster, and `rebalance` and `mask` are those of the edge to
-    /// it, whether this cluster is on or off. The line right ends.
+    /// take no thread, and the entry's answer is then `Empty`. `to` is the actor's home and another cluster, and `rebalance` and
+    /// `mask` are those of the edge to it, whether this cluster is on or off. The line right ends.
     pub fn offer(
         &mut self,
         desks: &DeskSet,

@@ -48,8 +48,9 @@ fn ends<N: RunName>(
     }
 }
 
-// Both sleep for 7000: none is due at 6999, the one of the lesser name at 7000, and then the other is woken at its moment.
-fn napped<N: RunName>(still: &mut Still<PlainCluster, N>) -> Result<(), AllocError>
+// Both sleep for 7000: none is due at 6999, the one of the lesser name at 7000, and then the other is woken at its moment. How
+// many live and how many ended by then.
+fn napped<N: RunName>(still: &mut Still<PlainCluster, N>) -> Result<(u32, u32), AllocError>
     requires pair { IsPair N.setup }
     requires programs { N.programs ≡ tried_programs }
     requires new { IsNew N.setup 0 still.old }
@@ -62,9 +63,10 @@ fn napped<N: RunName>(still: &mut Still<PlainCluster, N>) -> Result<(), AllocErr
     let_go(still.wake_due(0, 6999, &mut lines).value);
     let first = still.wake_due(0, 7000, &mut lines).value;
     let second = still.wake_first(1, 100, &mut lines).value;
+    let counts = (still.yard.live(), still.yard.ended());
     ends(still, first, &mut lines);
     ends(still, second, &mut lines);
-    Ok(())
+    Ok(counts)
 }
 
 fn tried<N: RunName>(
@@ -72,7 +74,7 @@ fn tried<N: RunName>(
     setup: Setup,
     desks: DeskSet,
     books: Vec<Book>,
-) -> Result<(u32, Closed), AllocError>
+) -> Result<((u32, u32), u32, Closed), AllocError>
     requires setup { setup ≡ N.setup }
     requires pair { IsPair N.setup }
     requires programs { N.programs ≡ tried_programs }
@@ -84,8 +86,7 @@ fn tried<N: RunName>(
     let napped = napped(&mut still);
     let blocked = still.blocked();
     let closed = still.close();
-    napped?;
-    Ok((blocked, closed))
+    Ok((napped?, blocked, closed))
 }
 
 #[test]
@@ -93,7 +94,8 @@ fn the_first_that_is_due_is_woken(rt: HostRuntime) -> Result<(), Fail> {
     let alloc = rt.alloc();
     let setup = pair(alloc)?;
     let (desks, books) = DeskSet::new(alloc)?;
-    let (blocked, closed) = tried::<Brand>(alloc, setup, desks, books)?;
+    let (counts, blocked, closed) = tried::<Brand>(alloc, setup, desks, books)?;
+    assert_eq!(rt; counts, (2, 0));
     assert_eq!(rt; blocked, 0);
     assert_eq!(rt;
         (closed.made, closed.queued, closed.blocked, closed.ended),
