@@ -18,7 +18,6 @@ mod Runs
 mod Selecting
 mod Shares
 mod Stepping
-mod Tried
 mod Waking
 mod YardKeeping
 mod YardSteps

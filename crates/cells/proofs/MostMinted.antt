@@ -10,7 +10,7 @@ use Rattle.flat_policy.specs.Policy.Setup.{SetupParts, cluster_count}
 use Rattle.flat_policy.specs.Runs.Worker.{Program}
 use Rattle.cells.specs.Held.{HeldParts}
 use Rattle.cells.specs.Lines.{left_in}
-use Rattle.cells.specs.Making.{AreBut, AtMost, HasMinted, HasRights, IsButSpare, IsNew, Made, past, stock_after, stock_left, with_free, with_lines, with_slot, with_spare}
+use Rattle.cells.specs.Making.{AreBut, AtMost, HasMinted, IsButSpare, IsNew, Made, past, stock_after, stock_left, with_free, with_lines, with_slot, with_spare}
 use Rattle.cells.specs.Packs.{Amounts}
 use Rattle.cells.specs.Stills.{HoldBelow, StillParts, held_at}
 use Rattle.cells.specs.Yards.{YardParts, enlisting, yard_stepped}
@@ -97,20 +97,4 @@ most_new setup turns s filled new = record {
       let past_it : nat_lt c n ≡ false = sym (filled.below c) ∙ filled_is s.clusters c ∙ ap is_some none in
       let left : left_in c s.stock ≡ most_threads = ap (left_in c) new.stock ∙ left_past n most_threads c there ∙ ap (λ (b : Bool). if b then 0 else most_threads) past_it in
       omega (arith, left);
-}
-
--- and where some are minted, at most more
-pub most_more : (k m : ℕ) (s : StillParts) → k ≤ m → AtMost k s → AtMost m s
-most_more k m s less few = record {
-  clusters = λ c h at. omega (arith, less, few.clusters c h at);
-  yard = omega (arith, less, few.yard);
-  stock = λ c there none. omega (arith, less, few.stock c there none);
-}
-
--- fewer than 4096 are minted where at most 1 is
-pub rights_of : (k : ℕ) (s : StillParts) → k < most_threads → AtMost k s → HasRights s
-rights_of k s less few = record {
-  clusters = λ c h at. omega (arith, less, few.clusters c h at);
-  yard = omega (arith, less, few.yard);
-  stock = λ c there none. omega (arith, less, few.stock c there none);
 }

@@ -41,6 +41,3 @@ pub use lines::Lines;
 pub use rider::{Rider, Slots};
 pub use run_name::RunName;
 pub use still::{Closed, Still};
-
-#[cfg(test)]
-mod tests;

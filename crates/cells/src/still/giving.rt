@@ -18,7 +18,7 @@ use crate::run_name::RunName;
 use flat_policy::cluster::Cluster;
 use flat_policy::setup::Setup;
 use flat_policy::texts::ProgramLine;
-use sched_base::limits::MOMENT_LIMIT;
+use sched_base::limits::{MOMENT_LIMIT, MOST_THREADS};
 use sched_base::{Spot, Thread};
 use std::alloc::AllocError;
 
@@ -26,6 +26,13 @@ use std::alloc::AllocError;
 const LINES_OF_TURN: u64 = 4;
 
 impl<K: Cluster, N: RunName> Still<K, N> {
+    /// Does nothing. It tells a proof that a slot right of each place may be given out where fewer than 4096 are.
+    pub fn has_rights(&self)
+        ensures { (k : ℕ) → k < MOST_THREADS → AtMost k self.now → HasRights self.now }
+    {
+        let _ = &self.yard;
+    }
+
     /// Makes a thread of a program, with one line right of the yard. It gets one slot right of each place, those of the places
     /// that aren't filled out of the stock. Room is reserved at every place first, so that an error changes nothing but spare
     /// room; it is want of memory.

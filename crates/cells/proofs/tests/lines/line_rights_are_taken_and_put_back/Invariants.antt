@@ -1,7 +1,0 @@
-use Rattle.std.proofs.Common.{[]}
-use Rattle.cells.specs.Courses.{tried_programs}
-use Rattle.cells.proofs.tests.lines.line_rights_are_taken_and_put_back.Given as goal
-
--- the run that was just set up
-abbrev pub ghosts-tried : goal.ghosts-tried
-ghosts-tried g a = record { setup = a.setup; programs = tried_programs; powers = []; desks = a.desks }

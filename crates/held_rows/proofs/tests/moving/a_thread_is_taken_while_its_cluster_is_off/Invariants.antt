@@ -1,0 +1,7 @@
+use Rattle.std.proofs.Common.{[]}
+use Rattle.held_rows.specs.Rows.{row_programs}
+use Rattle.held_rows.proofs.tests.moving.a_thread_is_taken_while_its_cluster_is_off.Given as goal
+
+-- the run that was just set up
+abbrev pub ghosts-tried : goal.ghosts-tried
+ghosts-tried g a = record { setup = a.setup; programs = row_programs; powers = []; desks = a.desks }
