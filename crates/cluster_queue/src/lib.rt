@@ -1,6 +1,6 @@
 //! The queue of a cluster in nested heaps.
 //!
-//! A cluster without entries (a caller in the tests):
+//! A cluster without entries (as in `cluster_rows`):
 //!
 //! ```
 //! let setup = Setup::build(rt.alloc(), &[[1, 1000]], &[], &[[0; 6]], 8, 1)?;
@@ -22,6 +22,3 @@ mod queue;
 
 pub use cluster::ClusterQueue;
 pub use flat_policy::cluster::Cluster;
-
-#[cfg(test)]
-mod tests;

@@ -1,6 +1,6 @@
 //! The flat policy: the definitions that every contract cites, the setup, and journals.
 //!
-//! A setup is built, and asked (a caller in the tests of `setup`):
+//! A setup is built, and asked (a caller in `data_rows`):
 //!
 //! ```
 //! let clusters = [[2, 1000], [2, 400]];

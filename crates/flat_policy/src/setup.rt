@@ -313,6 +313,3 @@ fn home_among(clusters: &[ClusterSize], actor: u8) -> u8
     }
     unreachable!()
 }
-
-#[cfg(test)]
-mod tests;

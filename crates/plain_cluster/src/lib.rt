@@ -1,6 +1,6 @@
 //! The queue of a cluster as one list of entries, in the order in which they arrived.
 //!
-//! A cluster without entries (a caller in the tests):
+//! A cluster without entries (as in `cluster_rows`):
 //!
 //! ```
 //! let setup = Setup::build(rt.alloc(), &[[1, 1000]], &[], &[[0; 6]], 8, 1)?;
@@ -27,6 +27,3 @@ mod units;
 
 pub use flat_policy::cluster::Cluster;
 pub use plain::PlainCluster;
-
-#[cfg(test)]
-mod tests;

@@ -1,6 +1,6 @@
 //! The setup line: read and written, as JSON.
 //!
-//! A setup is read, and written in its one canonical form (a caller in the tests):
+//! A setup is read, and written in its one canonical form (a caller in `data_rows`):
 //!
 //! ```
 //! let setup = read_setup(rt.alloc(), line.as_bytes())?;
@@ -20,6 +20,3 @@ pub use fault::SetupError;
 pub use flat_policy::texts::SetupFault;
 pub use reader::read_setup;
 pub use writer::write_setup;
-
-#[cfg(test)]
-mod tests;

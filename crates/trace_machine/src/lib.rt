@@ -1,6 +1,6 @@
 //! The machine: every cluster's queue, every actor's hand, and the yard, as one policy.
 //!
-//! A machine over one kind of cluster, and a step that the setup fits (a caller in the tests):
+//! A machine over one kind of cluster, and a step that the setup fits (a caller in `cluster_rows`):
 //!
 //! ```
 //! let setup = Setup::build(rt.alloc(), &[[1, 1000]], &[], &[[0; 6]], 8, 1)?;
@@ -17,8 +17,6 @@ pub mod laws;
 mod machine;
 mod names;
 mod parts;
-#[cfg(test)]
-mod tests;
 mod yard;
 
 pub use machine::Machine;

@@ -1,6 +1,6 @@
 //! The lines of traces and runs, read and written. Only `Page::new` takes memory.
 //!
-//! The line of a step with its answer, written into a buffer (a caller in the tests):
+//! The line of a step with its answer, written into a buffer (a caller in `data_rows`):
 //!
 //! ```
 //! let mut out = LineOut::new();
@@ -33,6 +33,3 @@ pub use page::{Page, STEP_ROOM};
 pub use pieces::piece;
 pub use runs::{read_program, read_run};
 pub use writing::{write_answer, write_bare, write_step};
-
-#[cfg(test)]
-mod tests;

@@ -1,8 +1,9 @@
-//! Worked setups.
+//! Setups, built from numbers.
 
-use super::*;
-use sched_base::Act;
+use flat_policy::setup::{BuildError, EdgeSpec, Field, Setup, Times};
 use sched_base::limits::MOST_EDGES;
+use sched_base::{Act, Bucket, Step};
+use std::alloc::AllocError;
 use std::test::Fail;
 
 const ONE: [[u64; 2]; 1] = [[1, 1000]];

@@ -1,6 +1,11 @@
-use super::*;
+//! Lines of traces and runs.
+
 use sched_base::{Act, Answer, Bucket, Place, Step};
 use std::test::Fail;
+use trace_text::{
+    Given, LineFault, LineOut, Page, Power, ProgramLine, RunLine, piece, read_numeral,
+    read_program, read_run, read_step, write_answer, write_bare, write_step,
+};
 
 const MAKE: Step = Step {
     moment: 1_099_511_627_775,

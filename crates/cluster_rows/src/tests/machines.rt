@@ -1,16 +1,20 @@
-//! A worked run over the cluster that is one list.
+//! A machine over either kind of cluster.
 
 ghost use Rattle.std.specs.Prelude.{◌≤◌, ◌<◌, ◌+◌, ◌^◌};
 ghost use Rattle.trace_machine.specs.Machines.{IsMachine};
 
-use super::*;
+use cluster_queue::ClusterQueue;
+use flat_policy::cluster::Cluster;
 use flat_policy::setup::Setup;
 use plain_cluster::PlainCluster;
-use sched_base::{Act, Bucket, Step};
+use sched_base::{Act, Answer, Bucket, Step};
+use std::alloc::Global;
+use std::process::Abort;
 use std::test::Fail;
+use trace_machine::Machine;
 
 /// Takes a step of actor 0 at the moment 5, where the setup fits it: its answer.
-fn asked(machine: &mut Machine<PlainCluster>, act: Act) -> Option<Answer>
+fn asked<K: Cluster>(machine: &mut Machine<K>, act: Act) -> Option<Answer>
     requires machine { IsMachine machine.old }
     requires few { machine.old.steps < 2 ^ 50 }
     ensures machine { IsMachine machine.new }
@@ -30,10 +34,10 @@ fn asked(machine: &mut Machine<PlainCluster>, act: Act) -> Option<Answer>
     }
 }
 
-#[test]
-fn a_thread_is_made_entered_and_selected(rt: HostRuntime) -> Result<(), Fail> {
-    let setup = Setup::build(rt.alloc(), &[[1, 1000]], &[], &[[0; 6]], 8, 1)?;
-    let mut machine: Machine<PlainCluster> = Machine::new(rt.alloc(), setup)?;
+// A thread is made, enters and is selected, and none is selected while it is in a hand.
+fn one_thread<K: Cluster>(rt: &impl Abort, alloc: Global) -> Result<(), Fail> {
+    let setup = Setup::build(alloc, &[[1, 1000]], &[], &[[0; 6]], 8, 1)?;
+    let mut machine: Machine<K> = Machine::new(alloc, setup)?;
     let make = Act::Make {
         name: 1,
         group: 0,
@@ -56,4 +60,10 @@ fn a_thread_is_made_entered_and_selected(rt: HostRuntime) -> Result<(), Fail> {
         (Some(Answer::Got(1)), Some(Answer::HandFull))
     );
     Ok(())
+}
+
+#[test]
+fn a_thread_is_made_entered_and_selected(rt: HostRuntime) -> Result<(), Fail> {
+    one_thread::<PlainCluster>(&rt, rt.alloc())?;
+    one_thread::<ClusterQueue>(&rt, rt.alloc())
 }

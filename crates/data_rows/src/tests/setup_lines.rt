@@ -1,7 +1,8 @@
-//! Worked setup lines.
+//! Setup lines.
 
-use super::*;
 use flat_policy::setup::Field;
+use flat_policy::texts::SetupFault;
+use setup_json::{SetupError, read_setup, write_setup};
 use std::alloc::Global;
 use std::test::Fail;
 

@@ -1,0 +1,4 @@
+//! Each call over either kind of cluster.
+
+mod clusters;
+mod machines;
