@@ -1,4 +1,4 @@
-//! Each call over either kind of cluster.
+//! Calls of either kind of cluster.
 
 mod clusters;
 mod machines;
